@@ -16,7 +16,7 @@ use crate::verify::verdict::refusal_of;
 use jsonwebtoken::Validation;
 use jwt_findings::{ExplanationForm, TokenRefusal, acceptance_text, refusal_text};
 use jwt_requests::{Checks, Fault};
-use std::alloc::Global;
+use std::alloc::{AllocError, Global};
 
 /// Returns the answer that explains a token: each test with its result, the first that fails with
 /// what it found and what it asks for, the times at which the token is accepted, and whether it
@@ -95,6 +95,14 @@ fn explain_refusal(
     Ok(Answer {
         status: 1,
         output: refusal_text(alloc, case.checked(), order, validation, reason, form)?,
-        message: String::new(alloc),
+        message: skipped_note(alloc, case.loaded.skipped)?,
     })
+}
+
+/// Returns a note about skipped items of the set, or nothing if there are none.
+fn skipped_note(alloc: Global, skipped: usize) -> Result<String, AllocError> {
+    if skipped == 0 {
+        return Ok(String::new(alloc));
+    }
+    format!(in alloc; "note: skipped {skipped} of the items of this set; 'jwt keys' shows why\n")
 }

@@ -3,7 +3,7 @@
 // A secret's file is taken as it is, unless `--trim` says otherwise: a final newline may be part of
 // a secret. The message about a wrong signature names the newline.
 
-ghost use Rattle.std.specs.Prelude.{◌≡◌, ◌⊎◌, ◌↔◌, ℕ, List, None, IfOk, IfErr};
+ghost use Rattle.std.specs.Prelude.{◌≡◌, ◌⊎◌, ◌↔◌, ℕ, List, [], None, IfOk, IfErr};
 ghost use Rattle.std.specs.Prelude.{IsTrue};
 ghost use Rattle.jwt_base.specs.JsonText.{ReadsText};
 ghost use Rattle.jwt_base.specs.Kind.{Kind};
@@ -11,16 +11,16 @@ ghost use Rattle.jwt_base.specs.KindOf.{IsMemory};
 ghost use Rattle.jwt_base.specs.declared.algorithms.AlgorithmFamily.TheVariants.{Hmac};
 ghost use Rattle.jwt_key_files.specs.PemKeys.{IsPemOf, IsPemRefused};
 ghost use Rattle.jwt_keys.specs.Jwk.{ReadsKey};
-ghost use Rattle.jwt_keys.specs.JwkSet.{ReadsSet};
 ghost use Rattle.jwt_keys.specs.Key.{Key, Plain};
 ghost use Rattle.jwt_keys.specs.KeyOfJwk.{IsKeyOf};
 ghost use Rattle.jwt_keys.specs.declared.jwk.Jwk.{Jwk};
-ghost use Rattle.jwt_keys.specs.declared.jwk_set.JwkSet.{JwkSet};
-ghost use Rattle.jwt_secrets.specs.Blank.{IsBlankKey, IsBlankJwk, HasBlankKey};
+ghost use Rattle.jwt_secrets.specs.Blank.{IsBlankKey, IsBlankJwk};
+ghost use Rattle.jwt_key_items.specs.KeyItems.{ReadsItems, kept_of};
+ghost use Rattle.jwt_key_items.specs.declared.Item.{Item};
 ghost use Rattle.jwt_secrets.specs.KeyTexts.{IsKeyText};
 ghost use Rattle.jsonwebtoken.specs.Own.{own_of};
 ghost use Rattle.jwt_command.specs.LineEnd.{IsSecret};
-ghost use Rattle.jwt_command.specs.FileKeys.{AreLoaded, HasKeysFault, IsTaken, IsNotTaken};
+ghost use Rattle.jwt_command.specs.FileKeys.{AreLoaded, HasKeysFault, IsKeptSet, IsTaken, IsNotTaken};
 
 pub(crate) mod jwk;
 pub(crate) mod table;
@@ -32,9 +32,10 @@ use jsonwebtoken::jwk::{Jwk, JwkSet, own_algorithm};
 use jsonwebtoken::{Algorithm, DecodingKey};
 use jwt_findings::{key_problem, pem_problem, set_problem};
 use jwt_key_files::pem::public_key_from_pem;
+use jwt_key_items::KeyItems;
 use jwt_requests::{Fault, KeyFile, SecretFile, fault_of};
 use jwt_secrets::key_texts::is_key_text;
-use jwt_secrets::{has_blank_key, is_blank, is_blank_key};
+use jwt_secrets::{is_blank, is_blank_key};
 use jwt_verifier::{KeyRing, Keys};
 use std::alloc::Global;
 
@@ -46,6 +47,8 @@ pub struct LoadedKeys {
     pub own: Option<Algorithm>,
     /// Whether the secret ends with a newline.
     pub has_line_end: bool,
+    /// How many items of the set are skipped.
+    pub skipped: usize,
 }
 
 /// What keys are prepared for.
@@ -249,14 +252,14 @@ fn load_set<'a>(
     bytes: &[u8],
     preparation: Preparation<'_>,
 ) -> Result<LoadedKeys, Fault<'a>>
-    ensures ok { IfOk result (λ l. (set : JwkSet) × ReadsText ReadsSet bytes.now set.keys.items
-        × (¬ HasBlankKey set.keys.items) × (l.keys.keys ≡ Keys.Set set) × (l.own ≡ None)) }
+    ensures ok { IfOk result (λ l. (items : List Item) × ReadsText ReadsItems bytes.now items
+        × IsKeptSet items l.keys.keys × (l.own ≡ None)) }
     ensures err { IfErr result (λ e. (e ≡ Fault.Memory)
-        ⊎ (((keys : List Jwk) → ¬ ReadsText ReadsSet bytes.now keys)
-        ⊎ ((keys : List Jwk) × ReadsText ReadsSet bytes.now keys × HasBlankKey keys))) }
+        ⊎ (((items : List Item) → ¬ ReadsText ReadsItems bytes.now items)
+        ⊎ ((items : List Item) × ReadsText ReadsItems bytes.now items × (kept_of items ≡ [])))) }
 {
-    match JwkSet::from_slice(alloc, bytes) {
-        Ok(set) => accept_set(alloc, path, set, preparation),
+    match KeyItems::from_slice(alloc, bytes) {
+        Ok(items) => accept_items(alloc, path, items, preparation),
         Err(error) => {
             let problem = set_problem(bytes);
             Err(fault_of(&error, Fault::File { path, problem }))
@@ -264,26 +267,48 @@ fn load_set<'a>(
     }
 }
 
-/// Returns the keys that are this set, unless anyone can sign for one of them.
+/// Returns the kept keys of a set, if there are any.
+fn accept_items<'a>(
+    alloc: Global,
+    path: &'a str,
+    items: KeyItems,
+    preparation: Preparation<'_>,
+) -> Result<LoadedKeys, Fault<'a>>
+    ensures ok { IfOk result (λ l. IsKeptSet items.items.items l.keys.keys × (l.own ≡ None)) }
+    ensures err { IfErr result (λ e. (e ≡ Fault.Memory) ⊎ (kept_of items.items.items ≡ [])) }
+{
+    let count = items.items.len();
+    match items.kept(alloc) {
+        Ok(set) => accept_set(alloc, path, set, count, preparation),
+        Err(_) => Err(Fault::Memory),
+    }
+}
+
+/// Returns the keys that are this set of so many items, if it has a key.
 fn accept_set<'a>(
     alloc: Global,
     path: &'a str,
     set: JwkSet,
+    count: usize,
     preparation: Preparation<'_>,
 ) -> Result<LoadedKeys, Fault<'a>>
-    ensures ok { IfOk result (λ l. (¬ HasBlankKey set.keys.items) × (l.keys.keys ≡ Keys.Set set)
-        × (l.own ≡ None)) }
-    ensures err { IfErr result (λ e. (e ≡ Fault.Memory) ⊎ HasBlankKey set.keys.items) }
+    ensures ok { IfOk result (λ l. (l.keys.keys ≡ Keys.Set set) × (l.own ≡ None)) }
+    ensures err { IfErr result (λ e. (e ≡ Fault.Memory) ⊎ (set.keys.items ≡ [])) }
 {
-    match has_blank_key(alloc, &set) {
-        Ok(false) => loaded_keys(alloc, Keys::Set(set), None, false, preparation),
-        Ok(true) => Err(Fault::File {
+    if set.keys.is_empty() {
+        return Err(Fault::File {
             path,
-            problem: "anyone can sign with a key of this set",
-        }),
-        Err(_) => Err(Fault::Memory),
+            problem: NO_KEY,
+        });
     }
+    let skipped = count.saturating_sub(set.keys.len());
+    let mut loaded = loaded_keys(alloc, Keys::Set(set), None, false, preparation)?;
+    loaded.skipped = skipped;
+    Ok(loaded)
 }
+
+/// The problem of a set without a usable key.
+const NO_KEY: &str = "no item of this set is a usable key; 'jwt keys' shows why";
 
 fn load_pem<'a>(
     alloc: Global,
@@ -323,6 +348,7 @@ fn loaded_keys(
             keys,
             own,
             has_line_end,
+            skipped: 0,
         }),
         Err(_) => Err(Fault::Memory),
     }

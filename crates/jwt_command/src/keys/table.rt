@@ -3,20 +3,17 @@
 ghost use Rattle.std.specs.Prelude.{◌≡◌, IfOk};
 
 use crate::answer::Answer;
-use jsonwebtoken::crypto::CryptoProvider;
-use jsonwebtoken::jwk::{
-    AlgorithmParameters, EllipticCurve, Jwk, JwkSet, PublicKeyUse, ThumbprintHash,
-};
-use jsonwebtoken::{Algorithm, DecodingKey};
+use jsonwebtoken::jwk::{AlgorithmParameters, Jwk, PublicKeyUse, ThumbprintHash};
 use jwt_base::serialization::part_bytes;
 use jwt_findings::{escape_unseen, is_unseen, set_problem, value_unless_refused};
+use jwt_key_items::{Item, KeyItems, Reason, Usage};
 use jwt_requests::{Fault, KeysArgs, fault_of};
-use jwt_secrets::is_blank_jwk;
 use jwt_standard::StandardProvider;
 use serde_json::Value;
 use std::alloc::{AllocError, Global};
 
 const HEADINGS: [&str; COLUMNS] = [
+    "ITEM",
     "KID",
     "TYPE",
     "ALG",
@@ -26,10 +23,10 @@ const HEADINGS: [&str; COLUMNS] = [
     "VERIFIES",
 ];
 
-const COLUMNS: usize = 7;
+const COLUMNS: usize = 8;
 
-/// The names of the columns in JSON, but the last.
-const NAMES: [&str; COLUMNS - 1] = ["kid", "type", "alg", "use", "size", "thumbprint"];
+/// The names of the facts in JSON, in the order of the columns between the first and the last.
+const NAMES: [&str; COLUMNS - 2] = ["kid", "type", "alg", "use", "size", "thumbprint"];
 
 /// The text for a member that is not base64url.
 const NO_BASE64URL: &str = "not base64url";
@@ -40,12 +37,12 @@ struct Row {
     cells: Vec<String>,
 }
 
-/// The facts about a key that are reported.
+/// The reported facts about an item of a set.
 #[derive(Drop)]
 struct Facts {
-    /// The texts of the columns but the last, each if the key has one.
+    /// The texts of the columns between the first and the last, each if the key has one.
     texts: Vec<Option<String>>,
-    /// Why no token is verified with the key, or `None` if one is.
+    /// Why no token is verified with the item, or `None` if one is.
     problem: Option<&'static str>,
 }
 
@@ -70,12 +67,12 @@ pub fn keys_answer<'a>(
     })
 }
 
-/// Returns what is reported of each key of the set of a file.
+/// Returns the facts about each item of the set of a file.
 fn listed_keys<'a>(alloc: Global, path: &'a str, bytes: &[u8]) -> Result<Vec<Facts>, Fault<'a>> {
-    let set = read_set(alloc, path, bytes)?;
+    let set = read_items(alloc, path, bytes)?;
     let mut keys = Vec::new(alloc);
-    for (place, jwk) in set.keys.iter().enumerate() {
-        keys.push(facts_of(alloc, &set.keys[..place], jwk)?)?;
+    for (place, item) in set.items.iter().enumerate() {
+        keys.push(facts_of(alloc, &set.items[..place], item)?)?;
     }
     Ok(keys)
 }
@@ -83,18 +80,24 @@ fn listed_keys<'a>(alloc: Global, path: &'a str, bytes: &[u8]) -> Result<Vec<Fac
 fn json_line(alloc: Global, keys: &[Facts]) -> Result<String, AllocError> {
     let mut line = String::from_str(alloc, "{\"ok\":true,\"keys\":[")?;
     let mut comma = "";
-    for key in keys {
+    for (place, key) in keys.iter().enumerate() {
         line.push_str(comma)?;
-        push_object(alloc, &mut line, key)?;
+        push_object(alloc, &mut line, place, key)?;
         comma = ",";
     }
     line.push_str("]}\n")?;
     escape_unseen(alloc, line)
 }
 
-/// Adds the facts of a key as a JSON object.
-fn push_object(alloc: Global, line: &mut String, key: &Facts) -> Result<(), AllocError> {
-    line.push('{')?;
+/// Adds the facts about the item at a place as a JSON object.
+fn push_object(
+    alloc: Global,
+    line: &mut String,
+    place: usize,
+    key: &Facts,
+) -> Result<(), AllocError> {
+    let number = number_at(place);
+    line.push_str(format!(in alloc; "{{\"item\":{number},")?.as_str())?;
     for (name, text) in NAMES.iter().zip(key.texts.iter()) {
         let value = value_text(alloc, text.as_deref())?;
         line.push_str(format!(in alloc; "\"{name}\":{value},")?.as_str())?;
@@ -102,6 +105,11 @@ fn push_object(alloc: Global, line: &mut String, key: &Facts) -> Result<(), Allo
     let verifies = key.problem.is_none();
     let why = value_text(alloc, key.problem)?;
     line.push_str(format!(in alloc; "\"verifies\":{verifies},\"why\":{why}}}")?.as_str())
+}
+
+/// Returns the number of the item at a place: the first item has the number 1.
+fn number_at(place: usize) -> u64 {
+    (place as u64).saturating_add(1)
 }
 
 /// Returns a text as JSON, or null.
@@ -115,15 +123,15 @@ fn value_text(alloc: Global, text: Option<&str>) -> Result<String, AllocError> {
 fn table(alloc: Global, keys: &[Facts]) -> Result<String, AllocError> {
     let mut rows = Vec::new(alloc);
     rows.push(headings(alloc)?)?;
-    for key in keys {
-        rows.push(row_of(alloc, key)?)?;
+    for (place, key) in keys.iter().enumerate() {
+        rows.push(row_of(alloc, place, key)?)?;
     }
     page(alloc, &rows)
 }
 
-/// Returns the set of a file, or the one key of it.
-fn read_set<'a>(alloc: Global, path: &'a str, bytes: &[u8]) -> Result<JwkSet, Fault<'a>> {
-    match JwkSet::from_slice(alloc, bytes) {
+/// Returns the items of the set of a file.
+fn read_items<'a>(alloc: Global, path: &'a str, bytes: &[u8]) -> Result<KeyItems, Fault<'a>> {
+    match KeyItems::from_slice(alloc, bytes) {
         Ok(set) => Ok(set),
         Err(error) => {
             let problem = set_problem(bytes);
@@ -140,8 +148,9 @@ fn headings(alloc: Global) -> Result<Row, AllocError> {
     Ok(Row { cells })
 }
 
-fn row_of(alloc: Global, key: &Facts) -> Result<Row, AllocError> {
+fn row_of(alloc: Global, place: usize, key: &Facts) -> Result<Row, AllocError> {
     let mut cells = Vec::new(alloc);
+    cells.push(format!(in alloc; "{}", number_at(place))?)?;
     for text in &key.texts {
         cells.push(printable_text(alloc, text.as_deref().unwrap_or("-"))?)?;
     }
@@ -152,7 +161,19 @@ fn row_of(alloc: Global, key: &Facts) -> Result<Row, AllocError> {
     Ok(Row { cells })
 }
 
-fn facts_of(alloc: Global, earlier: &[Jwk], jwk: &Jwk) -> Result<Facts, Fault<'static>> {
+/// Returns the facts about an item that comes after others.
+fn facts_of(alloc: Global, earlier: &[Item], item: &Item) -> Result<Facts, Fault<'static>> {
+    let texts = match &item.key {
+        Some(jwk) => key_texts(alloc, jwk)?,
+        None => no_texts(alloc)?,
+    };
+    Ok(Facts {
+        texts,
+        problem: problem_of(earlier, item),
+    })
+}
+
+fn key_texts(alloc: Global, jwk: &Jwk) -> Result<Vec<Option<String>>, Fault<'static>> {
     let mut texts = Vec::new(alloc);
     texts.push(copy(alloc, kid_of(jwk))?)?;
     texts.push(copy(alloc, Some(type_name(jwk)))?)?;
@@ -160,10 +181,16 @@ fn facts_of(alloc: Global, earlier: &[Jwk], jwk: &Jwk) -> Result<Facts, Fault<'s
     texts.push(copy(alloc, use_name(jwk))?)?;
     texts.push(size(alloc, jwk)?)?;
     texts.push(thumbprint(alloc, jwk)?)?;
-    Ok(Facts {
-        texts,
-        problem: problem_of(alloc, earlier, jwk)?,
-    })
+    Ok(texts)
+}
+
+/// Returns the texts of an item that is not a key.
+fn no_texts(alloc: Global) -> Result<Vec<Option<String>>, AllocError> {
+    let mut texts = Vec::new(alloc);
+    for _name in &NAMES {
+        texts.push(None)?;
+    }
+    Ok(texts)
 }
 
 fn copy(alloc: Global, text: Option<&str>) -> Result<Option<String>, AllocError> {
@@ -267,85 +294,54 @@ fn thumbprint(alloc: Global, jwk: &Jwk) -> Result<Option<String>, Fault<'static>
     Ok(value_unless_refused(made)?)
 }
 
-/// Returns why a key of a set is of no use, if so: such as one with which anyone can sign.
-fn problem_of(
-    alloc: Global,
-    earlier: &[Jwk],
-    jwk: &Jwk,
-) -> Result<Option<&'static str>, Fault<'static>> {
-    match is_blank_jwk(alloc, jwk) {
-        Ok(true) => Ok(Some("anyone can sign with it")),
-        Ok(false) => naming_problem(alloc, earlier, jwk),
-        Err(_) => Err(Fault::Memory),
+/// Returns why no token is verified with an item, if so: it is skipped, or no token can name it.
+fn problem_of(earlier: &[Item], item: &Item) -> Option<&'static str> {
+    match (&item.key, item.usage) {
+        (Some(jwk), Usage::Kept(_)) => naming_problem(earlier, jwk),
+        (Some(jwk), Usage::Skipped(Reason::Unfit)) => Some(unfit(jwk)),
+        (_, Usage::Skipped(reason)) => Some(reason_text(reason)),
+        (None, Usage::Kept(_)) => None,
     }
 }
 
-/// Returns why no token can name a key of a set, or the key does not verify.
-fn naming_problem(
-    alloc: Global,
-    earlier: &[Jwk],
-    jwk: &Jwk,
-) -> Result<Option<&'static str>, Fault<'static>> {
-    let Some(kid) = &jwk.common.key_id else {
-        return Ok(Some("it has no kid, so no token names it"));
+/// Returns why no token can name a kept key of a set, if so.
+fn naming_problem(earlier: &[Item], jwk: &Jwk) -> Option<&'static str> {
+    let Some(kid) = kid_of(jwk) else {
+        return Some("it has no kid, so no token names it");
     };
-    let is_other = |other: &Jwk| other.common.key_id.as_ref() == Some(kid);
-    if earlier.iter().any(is_other) {
-        return Ok(Some("an earlier key has its kid"));
+    if earlier.iter().any(|other| has_kid(other, kid)) {
+        return Some("an earlier key has its kid");
     }
-    verifier_problem(alloc, jwk)
+    None
 }
 
-/// Returns why no verifier by this key is made.
-fn verifier_problem(alloc: Global, jwk: &Jwk) -> Result<Option<&'static str>, Fault<'static>> {
-    let Some(algorithm) = algorithm_for(jwk) else {
-        return Ok(Some(unsupported(jwk)));
-    };
-    let Some(key) = value_unless_refused(DecodingKey::from_jwk(alloc, jwk))? else {
-        return Ok(Some("a member of the key is malformed"));
-    };
-    let made = StandardProvider.verifier_factory(alloc, &algorithm, &key);
-    // one drop
-    drop(key);
-    match value_unless_refused(made)? {
-        Some(verifier) => {
-            drop(verifier);
-            Ok(None)
-        }
-        None => Ok(Some("this is not a key of that algorithm")),
+/// Returns whether an item is a kept key with this `kid`.
+fn has_kid(item: &Item, kid: &str) -> bool {
+    match (&item.key, item.usage) {
+        (Some(jwk), Usage::Kept(_)) => kid_of(jwk) == Some(kid),
+        _ => false,
     }
 }
 
-/// Returns why there is no algorithm for a key.
-fn unsupported(jwk: &Jwk) -> &'static str {
-    match &jwk.algorithm {
-        AlgorithmParameters::Other(_) => {
-            "its type is unknown here, or lacks a member, such as n or e of RSA"
-        }
-        _ => "with no algorithm that is supported here",
+/// Returns why an item is skipped.
+fn reason_text(reason: Reason) -> &'static str {
+    match reason {
+        Reason::NotAKey =>
+            "it is not a key: not an object, or a member such as kid has the wrong type",
+        Reason::Unsupported => "its type is unknown here, or lacks a member, such as n or e of RSA",
+        Reason::Base64 => "a member of the key is malformed",
+        Reason::NotForSignatures => "its use is not sig",
+        Reason::Unfit => "no supported algorithm verifies with it",
+        Reason::AllZero => "the secret is empty or all zeros",
+        Reason::KeyText => "the secret is the text of a key",
     }
 }
 
-/// Returns an algorithm with which a key may verify: its own, and else one for its type.
-fn algorithm_for(jwk: &Jwk) -> Option<Algorithm> {
-    if let Some(named) = &jwk.common.key_algorithm {
-        return named.name().parse::<Algorithm>().ok();
-    }
-    match &jwk.algorithm {
-        AlgorithmParameters::EllipticCurve(key) => curve_algorithm(&key.curve),
-        AlgorithmParameters::RSA(_) => Some(Algorithm::RS256),
-        AlgorithmParameters::OctetKey(_) => Some(Algorithm::HS256),
-        AlgorithmParameters::OctetKeyPair(key) => curve_algorithm(&key.curve),
-        AlgorithmParameters::Other(_) => None,
-    }
-}
-
-fn curve_algorithm(curve: &EllipticCurve) -> Option<Algorithm> {
-    match curve {
-        EllipticCurve::P256 => Some(Algorithm::ES256),
-        EllipticCurve::P384 => Some(Algorithm::ES384),
-        EllipticCurve::P521 => None,
-        EllipticCurve::Ed25519 => Some(Algorithm::EdDSA),
+/// Returns why no algorithm verifies with a key.
+fn unfit(jwk: &Jwk) -> &'static str {
+    match jwk.common.key_algorithm {
+        Some(_) => "its alg is not supported, or does not verify with it",
+        None => reason_text(Reason::Unfit),
     }
 }
 
