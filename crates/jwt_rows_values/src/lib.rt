@@ -23,6 +23,7 @@ pub mod extras;
 pub mod headers;
 pub mod json;
 pub mod jwks;
+pub mod key_items;
 pub mod operations;
 pub mod parameters;
 pub mod parts;

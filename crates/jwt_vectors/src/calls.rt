@@ -16,8 +16,8 @@ use jwt_rows_values::arithmetic::signatures::is_signature;
 use jwt_rows_values::claims::{are_equal, claims, value};
 use jwt_rows_values::json::{json_call, membered_call, named_call};
 use jwt_rows_values::{
-    algorithms, errors, extras, headers, jwks, operations, parameters, parts, rules, secrets,
-    texts, validations,
+    algorithms, errors, extras, headers, jwks, key_items, operations, parameters, parts, rules,
+    secrets, texts, validations,
 };
 use serde_json::Value;
 
@@ -131,6 +131,7 @@ fn of_json(name: &str, method: &str, call: &str, row: &Row<'_>) -> Answer {
         "FreeMembers" => parameters::free_members(method, row),
         "Jwk" => jwks::jwk(method, row),
         "JwkSet" => jwks::jwk_set(method, row),
+        "KeyItems" => key_items::key_items(method, row),
         "Enc" => json_call::<Enc>(method, row),
         "Zip" => json_call::<Zip>(method, row),
         "Extras" => extras::extras(method, row),
