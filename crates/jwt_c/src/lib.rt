@@ -20,7 +20,8 @@
 
 #![tactic(auto)]
 
-ghost use Rattle.std.specs.Prelude.{◌≡◌, ℕ, List, length, None, Some};
+ghost use Rattle.std.specs.Prelude.{◌≡◌, ℕ, List, Option, length, None, Some};
+ghost use Rattle.jwt_base.specs.declared.algorithms.AlgorithmFamily.{AlgorithmFamily as Family};
 ghost use Rattle.jwt_base.specs.Algorithm.{name_of};
 ghost use Rattle.jwt_base.specs.Kind.{Kind};
 ghost use Rattle.jwt_base.specs.declared.algorithms.Algorithm.{Algorithm};
@@ -46,6 +47,7 @@ ghost use Rattle.jwt_c_calls.specs.Texts.{IsNumberOfName, LeavesText, text_numbe
 ghost use Rattle.jwt_c_calls.specs.Unverified.{LeavesPart};
 ghost use Rattle.jwt_c_calls.specs.Verifiers.{limits_of, AreOfKey, AreOfSecret, AreOfSet};
 ghost use Rattle.jwt_c_calls.specs.Held.{LeavesMade, LeavesShared, LeavesUntil, FitsVerifier};
+ghost use Rattle.jwt_c_calls.specs.Held.{HasOneFamily, IsFamilyIn};
 ghost use Rattle.jwt_c.specs.Issued.{LeavesByKey};
 
 use jsonwebtoken::signed_part;
@@ -674,15 +676,18 @@ pub extern "C" fn jwt_verifier_decode(
     test: &mut u32,
 ) -> u32
     ensures held { verifier.new.held ≡ verifier.old.held }
-    ensures decided { LeavesUntil verifier.old.held token.now time last.new test.new result len.new
+    // Of the listed algorithms those count that are of the family of the token's key.
+    ensures decided { (f : Option Family) → IsFamilyIn verifier.old.held token.now f
+        → LeavesUntil f verifier.old.held token.now time last.new test.new result len.new
         room.old room.new }
 
-    // What the calls without a verifier leave, with any texts that it was made of.
-    ensures set { (options set : List ℕ)
+    // What the calls without a verifier leave, with any texts that it was made of, if all listed
+    // algorithms are of one family.
+    ensures set { (options set : List ℕ) → HasOneFamily verifier.old.held
         → FitsVerifier verifier.old.held (AreOfSet options set) (length token.now)
         → (a : Answer) × AnswersSet options token.now set time a
         × Leaves a result len.new room.old room.new }
-    ensures key { (options key : List ℕ)
+    ensures key { (options key : List ℕ) → HasOneFamily verifier.old.held
         → FitsVerifier verifier.old.held (AreOfKey options key) (length token.now)
         → (a : Answer) × AnswersKey options token.now key time a
         × Leaves a result len.new room.old room.new }

@@ -3,6 +3,7 @@ use Rattle.std.proofs.Common.{◌≡◌, ◌∙◌, ◌≤◌, ◌<◌, ℕ, Lis
 use Rattle.std.proofs.Common.{arith, inl, inr, sym, subst}
 use Rattle.jwt_base.specs.Kind.{Kind}
 use Rattle.jwt_base.specs.Kind as kind
+use Rattle.jwt_base.specs.declared.algorithms.AlgorithmFamily.{AlgorithmFamily}
 use Rattle.jwt_validation.specs.Options.{Options}
 use Rattle.jwt_validation.specs.declared.validation.Validation.{Validation}
 use Rattle.jwt_verifier.specs.declared.keys.Keys.{Keys}
@@ -32,55 +33,55 @@ module _ (Refused : Answer → Type 0) (AreOf : Options → Keys → Type 0) (li
 -- ---- verifying
 
 -- what a verifier leaves by the two sides of a result
-left_by : {V : Type 0} (items : V → List ℕ) (last_of : V → ℕ) (v : Verifier) (token : List ℕ) (time : ℕ)
+left_by : {V : Type 0} (f : Option AlgorithmFamily) (items : V → List ℕ) (last_of : V → ℕ) (v : Verifier) (token : List ℕ) (time : ℕ)
     (r : Result V TokenRefusal) (last test status len : ℕ) (old new : List ℕ)
-    → IfOk r (λ a. (length token ≤ v.limits.max_len) × AnswersUntil v.keys.keys v.validation token time (last_of a) (Returns (items a)))
-    → IfErr r (λ d. IsRefusedWith v token time d.status d.test)
+    → IfOk r (λ a. (length token ≤ v.limits.max_len) × AnswersUntil f v.keys.keys v.validation token time (last_of a) (Returns (items a)))
+    → IfErr r (λ d. IsRefusedWith f v token time d.status d.test)
     → IfOk r (λ a. (last ≡ last_of a) × (test ≡ 0) × IsGiven (items a) status len old new)
     → IfErr r (λ d. (last ≡ 0) × (test ≡ d.test) × IsKept d.status status len old new)
-    → LeavesBy v token time last test status len old new
-left_by items last_of v token time (Ok a) last test status len old new ok err given kept =
+    → LeavesBy f v token time last test status len old new
+left_by f items last_of v token time (Ok a) last test status len old new ok err given kept =
     inr (
       ok.0,
       (
         Returns (items a),
-        subst (λ (n : ℕ). AnswersUntil v.keys.keys v.validation token time n (Returns (items a)))
+        subst (λ (n : ℕ). AnswersUntil f v.keys.keys v.validation token time n (Returns (items a)))
             (sym given.0) ok.1,
         given.1,
         given.2,
       ),
     )
-left_by items last_of v token time (Err d) last test status len old new ok (inl long) given kept =
+left_by f items last_of v token time (Err d) last test status len old new ok (inl long) given kept =
     inl (long.0, kept.0, kept.1 ∙ long.2, subst (λ (n : ℕ). IsKept n status len old new) long.1 kept.2)
-left_by items last_of v token time (Err d) last test status len old new ok (inr short) given kept =
-    let told : TellsTest v.keys.keys v.validation token time short.1.0 test =
-    subst (TellsTest v.keys.keys v.validation token time short.1.0) (sym kept.1) short.1.2 in
+left_by f items last_of v token time (Err d) last test status len old new ok (inr short) given kept =
+    let told : TellsTest f v.keys.keys v.validation token time short.1.0 test =
+    subst (TellsTest f v.keys.keys v.validation token time short.1.0) (sym kept.1) short.1.2 in
     inr (short.0, (Refuses short.1.0, short.1.1, told, subst (λ (n : ℕ). IsKept n status len old new) short.1.3 kept.2))
 
-pub decided : {V : Type 0} (items : V → List ℕ) (last_of : V → ℕ) (held : Option Shared) (s : Shared) (v : Verifier)
+pub decided : {V : Type 0} (f : Option AlgorithmFamily) (items : V → List ℕ) (last_of : V → ℕ) (held : Option Shared) (s : Shared) (v : Verifier)
     (token : List ℕ) (time : ℕ) (r : Result V TokenRefusal) (last test status len : ℕ) (old new : List ℕ)
     → held ≡ Some s → v ≡ verifier_in s
-    → IfOk r (λ a. (length token ≤ v.limits.max_len) × AnswersUntil v.keys.keys v.validation token time (last_of a) (Returns (items a)))
-    → IfErr r (λ d. IsRefusedWith v token time d.status d.test)
+    → IfOk r (λ a. (length token ≤ v.limits.max_len) × AnswersUntil f v.keys.keys v.validation token time (last_of a) (Returns (items a)))
+    → IfErr r (λ d. IsRefusedWith f v token time d.status d.test)
     → IfOk r (λ a. (last ≡ last_of a) × (test ≡ 0) × IsGiven (items a) status len old new)
     → IfErr r (λ d. (last ≡ 0) × (test ≡ d.test) × IsKept d.status status len old new)
-    → LeavesUntil held token time last test status len old new
-decided items last_of held s v token time r last test status len old new h e ok err given kept =
-    let left : LeavesBy (verifier_in s) token time last test status len old new =
-    subst (λ (w : Verifier). LeavesBy w token time last test status len old new) e
-    (left_by items last_of v token time r last test status len old new ok err given kept) in
-    subst (λ (o : Option Shared). LeavesUntil o token time last test status len old new) (sym h) left
+    → LeavesUntil f held token time last test status len old new
+decided f items last_of held s v token time r last test status len old new h e ok err given kept =
+    let left : LeavesBy f (verifier_in s) token time last test status len old new =
+    subst (λ (w : Verifier). LeavesBy f w token time last test status len old new) e
+    (left_by f items last_of v token time r last test status len old new ok err given kept) in
+    subst (λ (o : Option Shared). LeavesUntil f o token time last test status len old new) (sym h) left
 
 -- the answer without the last time
-without_last : (keys : Keys) (validation : Validation) (token : List ℕ) (time last : ℕ) (a : Answer)
-    → AnswersUntil keys validation token time last a → AnswersWith keys validation token time a
-without_last keys validation token time last (Returns b) x = (tt, tt, (x.2.0, x.2.1.0, x.2.2))
-without_last keys validation token time last (Refuses k) x = x
-without_last keys validation token time last (InputError i) x = x
+without_last : (f : Option AlgorithmFamily) (keys : Keys) (validation : Validation) (token : List ℕ) (time last : ℕ) (a : Answer)
+    → AnswersUntil f keys validation token time last a → AnswersWith f keys validation token time a
+without_last f keys validation token time last (Returns b) x = (tt, tt, (x.2.0, x.2.1.0, x.2.2))
+without_last f keys validation token time last (Refuses k) x = x
+without_last f keys validation token time last (InputError i) x = x
 
--- which is what the calls leave with the texts that the verifier was made of
+-- which is what the calls leave with the texts that the verifier was made of, if all algorithms are of one family
 pub as_set : (held : Option Shared) (token : List ℕ) (time last test status len : ℕ) (old new : List ℕ)
-    → LeavesUntil held token time last test status len old new
+    → LeavesUntil None held token time last test status len old new
     → (options set : List ℕ) → FitsVerifier held (AreOfSet options set) (length token)
     → (a : Answer) × AnswersSet options token set time a × Leaves a status len old new
 as_set None token time last test status len old new d options set takes = absurd takes
@@ -90,12 +91,12 @@ as_set (Some s) token time last test status len old new (inl long) options set t
 as_set (Some s) token time last test status len old new (inr left) options set takes =
     let keys = (verifier_in s).keys.keys in let validation = (verifier_in s).validation in let a = left.1.0 in (
       a,
-      by_set options set token time keys validation a takes.0 (without_last keys validation token time last a left.1.1),
+      by_set options set token time keys validation a takes.0 (without_last None keys validation token time last a left.1.1),
       left.1.3,
     )
 
 pub as_key : (held : Option Shared) (token : List ℕ) (time last test status len : ℕ) (old new : List ℕ)
-    → LeavesUntil held token time last test status len old new
+    → LeavesUntil None held token time last test status len old new
     → (options key : List ℕ) → FitsVerifier held (AreOfKey options key) (length token)
     → (a : Answer) × AnswersKey options token key time a × Leaves a status len old new
 as_key None token time last test status len old new d options key takes = absurd takes
@@ -105,6 +106,6 @@ as_key (Some s) token time last test status len old new (inl long) options key t
 as_key (Some s) token time last test status len old new (inr left) options key takes =
     let keys = (verifier_in s).keys.keys in let validation = (verifier_in s).validation in let a = left.1.0 in (
       a,
-      by_key options key token time keys validation a takes.0 (without_last keys validation token time last a left.1.1),
+      by_key options key token time keys validation a takes.0 (without_last None keys validation token time last a left.1.1),
       left.1.3,
     )

@@ -3,6 +3,7 @@ pub mod Answered
 pub mod Checked
 pub mod Decided
 pub mod Depths
+pub mod Families
 pub mod Handed
 pub mod HandleValues
 pub mod Made

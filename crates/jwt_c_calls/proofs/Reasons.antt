@@ -1,8 +1,9 @@
 -- A refusal by its first failed test is told by the test's number.
-use Rattle.std.proofs.Common.{◌≡◌, ◌⊎◌, ◌≤◌, ℕ, List, length, Result, Ok, Err, IfErr, inl, inr, refl}
+use Rattle.std.proofs.Common.{◌≡◌, ◌⊎◌, ◌≤◌, ℕ, List, length, Option, Result, Ok, Err, IfErr, inl, inr, refl}
 use Rattle.jwt_base.specs.Kind.{Kind}
 use Rattle.jwt_base.specs.Kind as kind
 use Rattle.jwt_base.specs.KindOf.{kind_of, IsMemory}
+use Rattle.jwt_base.specs.declared.algorithms.AlgorithmFamily.{AlgorithmFamily}
 use Rattle.jwt_validation.specs.declared.validation.Validation.{Validation}
 use Rattle.jsonwebtoken.specs.Refused.{IsRefusal}
 use Rattle.jsonwebtoken.specs.Tests.{token_tests}
@@ -17,12 +18,12 @@ use Rattle.jwt_c_calls.specs.Verifiers.{AnswersWith, IsRefusedWith, TellsTest, v
 use Rattle.jwt_c_calls.specs.declared.verifiers.Accepted.{Accepted}
 use Rattle.jwt_c_calls.specs.declared.verifiers.TokenRefusal.{TokenRefusal}
 
-module _ (keys : Keys) (validation : Validation) (token : List ℕ) (time : ℕ) (refusal : Refusal) (status test : ℕ) where
-  pub refused_with : IsMemory refusal.error ⊎ IsRefusal (token_tests (verifier_call keys validation token time))
+module _ (f : Option AlgorithmFamily) (keys : Keys) (validation : Validation) (token : List ℕ) (time : ℕ) (refusal : Refusal) (status test : ℕ) where
+  pub refused_with : IsMemory refusal.error ⊎ IsRefusal (token_tests (verifier_call f keys validation token time))
       (order_of keys) refusal
       → status ≡ number (kind_of refusal.error)
       → (IsMemory refusal.error × (test ≡ 0)) ⊎ ((¬ IsMemory refusal.error) × (test ≡ test_number refusal.test))
-      → (k : Kind) × AnswersWith keys validation token time (Refuses k) × TellsTest keys validation token time k test
+      → (k : Kind) × AnswersWith f keys validation token time (Refuses k) × TellsTest f keys validation token time k test
       × (status ≡ number k)
   refused_with (inl m) is (inl none) = (kind_of refusal.error, inl m, inl (m, none.1), is)
   refused_with (inl m) is (inr some) = absurd (some.0 m)
@@ -35,7 +36,7 @@ module _ (keys : Keys) (validation : Validation) (token : List ℕ) (time : ℕ)
   )
 
 -- memory ran out as the claims were written
-pub out_of_memory : (v : Verifier) (token : List ℕ) (time : ℕ) → length token ≤ v.limits.max_len → (r : Result Accepted TokenRefusal)
-    → IfErr r (λ d. (d.status ≡ 22) × (d.test ≡ 0)) → IfErr r (λ d. IsRefusedWith v token time d.status d.test)
-out_of_memory v token time short (Ok a) e = tt
-out_of_memory v token time short (Err d) e = inr (short, (kind.OutOfMemory, inl refl, inl (refl, e.1), e.0))
+pub out_of_memory : (f : Option AlgorithmFamily) (v : Verifier) (token : List ℕ) (time : ℕ) → length token ≤ v.limits.max_len → (r : Result Accepted TokenRefusal)
+    → IfErr r (λ d. (d.status ≡ 22) × (d.test ≡ 0)) → IfErr r (λ d. IsRefusedWith f v token time d.status d.test)
+out_of_memory f v token time short (Ok a) e = tt
+out_of_memory f v token time short (Err d) e = inr (short, (kind.OutOfMemory, inl refl, inl (refl, e.1), e.0))

@@ -1,15 +1,17 @@
 -- The verifier that a handle holds, and what the calls with it leave.
-use Rattle.std.specs.Prelude.{◌≡◌, ◌⊎◌, ◌≤◌, ◌<◌, ℕ, List, length, Option, None, Result, Ok, MatchOption, MatchResult}
+use Rattle.std.specs.Prelude.{◌≡◌, ◌⊎◌, ⊤, ◌≤◌, ◌<◌, ℕ, List, length, Option, None, Result, Ok, MatchOption, MatchResult}
 use Rattle.std.specs.Arc.{arc_value}
 use Rattle.jwt_base.specs.Kind as kind
+use Rattle.jwt_base.specs.declared.algorithms.AlgorithmFamily.{AlgorithmFamily}
 use Rattle.jwt_validation.specs.Options.{Options}
 use Rattle.jwt_validation.specs.OptionsOf.{options_of}
+use Rattle.jsonwebtoken.specs.Family.{AreOfOneFamily}
 use Rattle.jwt_verifier.specs.declared.keys.Keys.{Keys}
 use Rattle.jwt_verifier.specs.declared.limits.Limits.{Limits}
 use Rattle.jwt_verifier.specs.declared.verifier.Verifier.{Verifier}
 use Rattle.jwt_c_calls.specs.Calls.{Answer, Leaves}
 use Rattle.jwt_c_calls.specs.Status.{number, no_verifier, has_verifier, token_too_long, IsKept}
-use Rattle.jwt_c_calls.specs.Verifiers.{AnswersUntil, IsUnmade, IsVerifierOf, TellsTestOf}
+use Rattle.jwt_c_calls.specs.Verifiers.{AnswersUntil, IsFamilyFor, IsUnmade, IsVerifierOf, TellsTestOf}
 use Rattle.jwt_c_calls.specs.declared.shared.Shared.{Shared}
 
 abbrev pub verifier_in : Shared → Verifier
@@ -43,21 +45,29 @@ FitsVerifier held AreOf len = MatchOption held ⊥
     (λ s. AreOf (options_of (verifier_in s).validation) (verifier_in s).keys.keys
     × (len ≤ (verifier_in s).limits.max_len))
 
+-- the algorithms of the verifier that the handle holds are of one family
+abbrev pub HasOneFamily : Option Shared → Type 0
+HasOneFamily held = MatchOption held ⊤ (λ s. AreOfOneFamily (verifier_in s).validation.algorithms.items)
+
+-- the family whose algorithms count for a token, by the verifier that the handle holds
+abbrev pub IsFamilyIn : Option Shared → List ℕ → Option AlgorithmFamily → Type 0
+IsFamilyIn held token f = MatchOption held ⊤ (λ s. IsFamilyFor (verifier_in s) token f)
+
 -- the result of a verifier, with the last time at which the token is accepted, or 0 if it is not, and the
 -- number of the first failed test, or 0 if none failed
-abbrev pub LeavesBy : Verifier → List ℕ → ℕ → ℕ → ℕ → ℕ → ℕ → List ℕ → List ℕ → Type 0
-LeavesBy v token time last test status len before after =
+abbrev pub LeavesBy : Option AlgorithmFamily → Verifier → List ℕ → ℕ → ℕ → ℕ → ℕ → ℕ → List ℕ → List ℕ → Type 0
+LeavesBy f v token time last test status len before after =
     ((v.limits.max_len < length token) × (last ≡ 0) × (test ≡ 0)
     × IsKept token_too_long status len before after)
     ⊎ ((length token ≤ v.limits.max_len)
-    × ((a : Answer) × AnswersUntil v.keys.keys v.validation token time last a
-    × TellsTestOf v.keys.keys v.validation token time a test × Leaves a status len before after))
+    × ((a : Answer) × AnswersUntil f v.keys.keys v.validation token time last a
+    × TellsTestOf f v.keys.keys v.validation token time a test × Leaves a status len before after))
 
 -- the result of the verifier that a handle holds
-abbrev pub LeavesUntil : Option Shared → List ℕ → ℕ → ℕ → ℕ → ℕ → ℕ → List ℕ → List ℕ → Type 0
-LeavesUntil held token time last test status len before after = MatchOption held
+abbrev pub LeavesUntil : Option AlgorithmFamily → Option Shared → List ℕ → ℕ → ℕ → ℕ → ℕ → ℕ → List ℕ → List ℕ → Type 0
+LeavesUntil f held token time last test status len before after = MatchOption held
     ((last ≡ 0) × (test ≡ 0) × IsKept no_verifier status len before after)
-    (λ s. LeavesBy (verifier_in s) token time last test status len before after)
+    (λ s. LeavesBy f (verifier_in s) token time last test status len before after)
 
 -- ---- for private clauses
 

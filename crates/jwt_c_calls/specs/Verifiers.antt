@@ -1,12 +1,13 @@
 -- The results of the calls for C that make a verifier, and of those that verify with one.
 use Rattle.std.specs.Prelude.{◌≡◌, ◌⊎◌, ◌↔◌, ◌≤◌, ◌<◌, ◌==◌, ℕ, List, length, Bool, Result, Ok, Err, IsTrue}
-use Rattle.std.specs.Prelude.{if◌then◌else◌}
+use Rattle.std.specs.Prelude.{if◌then◌else◌, None, Option}
 use Rattle.serde_json.specs.declared.value.Value.{Value}
 use Rattle.jwt_base.specs.Claims.{IsValue}
 use Rattle.jwt_base.specs.JsonText.{ReadsText}
 use Rattle.jwt_base.specs.Kind.{Kind}
 use Rattle.jwt_base.specs.Kind as kind
 use Rattle.jwt_base.specs.declared.algorithms.Algorithm.{Algorithm}
+use Rattle.jwt_base.specs.declared.algorithms.AlgorithmFamily.{AlgorithmFamily}
 use Rattle.jwt_base.specs.declared.algorithms.AlgorithmFamily.TheVariants.{Hmac}
 use Rattle.jwt_keys.specs.Jwk.{ReadsKey}
 use Rattle.jwt_keys.specs.JwkSet.{ReadsSet}
@@ -20,6 +21,8 @@ use Rattle.jwt_validation.specs.Options.{Options}
 use Rattle.jwt_validation.specs.OptionsOf.{options_of}
 use Rattle.jwt_c_calls.specs.Inputs.{ReadsOptions}
 use Rattle.jwt_validation.specs.declared.validation.Validation.{Validation}
+use Rattle.jsonwebtoken.specs.Family.{AreOfOneFamily, family_by, with_family}
+use Rattle.jsonwebtoken.specs.Own.{HasHeaderOf}
 use Rattle.jsonwebtoken.specs.Order.{Passes, FailsFirst, IsFirstFailed}
 use Rattle.jsonwebtoken.specs.Tests.{Call, Compact, Contents, token_tests, verifying_call}
 use Rattle.jsonwebtoken.specs.declared.refusal.Test.{Test}
@@ -121,18 +124,24 @@ IsMade Refused AreOf limits (Err status) = IsUnmade Refused AreOf limits.allows_
 
 -- ---- verifying with it
 
--- `decode` or `decode_with_set` by all twelve algorithms, with these keys and options
-abbrev pub verifier_call : Keys → Validation → List ℕ → ℕ → Call Value
-verifier_call keys validation token time =
-    verifying_call (Compact token) (source_of keys) (options_of validation) time
-    verifier_refusal StandardAccepts IsValue
+-- The family whose algorithms count: that of the key of the token, by its header; or none is named, since the listed
+-- algorithms are all of one family.
+abbrev pub IsFamilyFor : Verifier → List ℕ → Option AlgorithmFamily → Type 0
+IsFamilyFor v token f = ((t : Contents) → HasHeaderOf token t → f ≡ family_by (source_of v.keys.keys) t.header)
+    ⊎ ((f ≡ None) × AreOfOneFamily v.validation.algorithms.items)
+
+-- `decode` or `decode_with_set` by all twelve algorithms, with these keys and options, and of the listed algorithms those
+-- of this family
+abbrev pub verifier_call : Option AlgorithmFamily → Keys → Validation → List ℕ → ℕ → Call Value
+verifier_call f keys validation token time = with_family
+    (verifying_call (Compact token) (source_of keys) (options_of validation) time verifier_refusal StandardAccepts IsValue) f
 
 -- the claims of an accepted token, or the kind with which it is refused
-abbrev pub AnswersWith : Keys → Validation → List ℕ → ℕ → Answer → Type 0
-AnswersWith keys validation token time = AnswersBy {E = Unit {0}} (λ _. Unit {0}) (λ _. ⊥)
-    (λ _. IsClaimsText (Passes (token_tests (verifier_call keys validation token time))
+abbrev pub AnswersWith : Option AlgorithmFamily → Keys → Validation → List ℕ → ℕ → Answer → Type 0
+AnswersWith f keys validation token time = AnswersBy {E = Unit {0}} (λ _. Unit {0}) (λ _. ⊥)
+    (λ _. IsClaimsText (Passes (token_tests (verifier_call f keys validation token time))
     (order_of keys)))
-    (λ _. FailsFirst (token_tests (verifier_call keys validation token time)) (order_of keys))
+    (λ _. FailsFirst (token_tests (verifier_call f keys validation token time)) (order_of keys))
 
 -- from this time on, these contents pass exactly up to the last one (RFC 7519 section 4.1.4)
 abbrev pub IsLast : {T : Type 0} → Call T → List Test → ℕ → Contents → ℕ → Type 0
@@ -141,29 +150,29 @@ IsLast call order time t last = (m : ℕ) → time ≤ m → m ≤ end_of_time
 
 -- The claims of an accepted token, which is accepted up to the last time and not after it; or the
 -- kind with which it is refused.
-abbrev pub AnswersUntil : Keys → Validation → List ℕ → ℕ → ℕ → Answer → Type 0
-AnswersUntil keys validation token time last = AnswersBy {E = Unit {0}} (λ _. Unit {0}) (λ _. ⊥)
-    (λ _. IsClaimsText (λ t. Passes (token_tests (verifier_call keys validation token time))
-    (order_of keys) t × IsLast (verifier_call keys validation token time) (order_of keys) time t last))
-    (λ _. FailsFirst (token_tests (verifier_call keys validation token time)) (order_of keys))
+abbrev pub AnswersUntil : Option AlgorithmFamily → Keys → Validation → List ℕ → ℕ → ℕ → Answer → Type 0
+AnswersUntil f keys validation token time last = AnswersBy {E = Unit {0}} (λ _. Unit {0}) (λ _. ⊥)
+    (λ _. IsClaimsText (λ t. Passes (token_tests (verifier_call f keys validation token time))
+    (order_of keys) t × IsLast (verifier_call f keys validation token time) (order_of keys) time t last))
+    (λ _. FailsFirst (token_tests (verifier_call f keys validation token time)) (order_of keys))
 
 -- the number of the first failed test of a token that is refused with this kind; if memory ran out 0, and only then
-abbrev pub TellsTest : Keys → Validation → List ℕ → ℕ → Kind → ℕ → Type 0
-TellsTest keys validation token time k test = ((k ≡ kind.OutOfMemory) × (test ≡ 0))
-    ⊎ ((¬ (k ≡ kind.OutOfMemory)) × ((f : Test)
-    × IsFirstFailed (token_tests (verifier_call keys validation token time)) (order_of keys) f
-    × (test ≡ test_number f)))
+abbrev pub TellsTest : Option AlgorithmFamily → Keys → Validation → List ℕ → ℕ → Kind → ℕ → Type 0
+TellsTest f keys validation token time k test = ((k ≡ kind.OutOfMemory) × (test ≡ 0))
+    ⊎ ((¬ (k ≡ kind.OutOfMemory)) × ((c : Test)
+    × IsFirstFailed (token_tests (verifier_call f keys validation token time)) (order_of keys) c
+    × (test ≡ test_number c)))
 
 -- the number of the first failed test, or 0 if none failed
-abbrev pub TellsTestOf : Keys → Validation → List ℕ → ℕ → Answer → ℕ → Type 0
-TellsTestOf keys validation token time (Returns bytes) test = test ≡ 0
-TellsTestOf keys validation token time (Refuses k) test = TellsTest keys validation token time k test
-TellsTestOf keys validation token time (InputError i) test = ⊥
+abbrev pub TellsTestOf : Option AlgorithmFamily → Keys → Validation → List ℕ → ℕ → Answer → ℕ → Type 0
+TellsTestOf f keys validation token time (Returns bytes) test = test ≡ 0
+TellsTestOf f keys validation token time (Refuses k) test = TellsTest f keys validation token time k test
+TellsTestOf f keys validation token time (InputError i) test = ⊥
 
 -- the status of a token that is refused, and the number of the test: by its length; or with a kind
-abbrev pub IsRefusedWith : Verifier → List ℕ → ℕ → ℕ → ℕ → Type 0
-IsRefusedWith v token time status test =
+abbrev pub IsRefusedWith : Option AlgorithmFamily → Verifier → List ℕ → ℕ → ℕ → ℕ → Type 0
+IsRefusedWith f v token time status test =
     ((v.limits.max_len < length token) × (status ≡ token_too_long) × (test ≡ 0))
     ⊎ ((length token ≤ v.limits.max_len) × ((k : Kind)
-    × AnswersWith v.keys.keys v.validation token time (Refuses k)
-    × TellsTest v.keys.keys v.validation token time k test × (status ≡ number k)))
+    × AnswersWith f v.keys.keys v.validation token time (Refuses k)
+    × TellsTest f v.keys.keys v.validation token time k test × (status ≡ number k)))

@@ -1,6 +1,6 @@
 //! Verifiers of texts, and their answers.
 
-ghost use Rattle.std.specs.Prelude.{◌≡◌, ◌⊎◌, ◌≤◌, ◌↔◌, length, IfOk, IfErr, OnOk, IsTrue};
+ghost use Rattle.std.specs.Prelude.{◌≡◌, ◌⊎◌, ◌≤◌, ◌↔◌, length, IfOk, IfErr, OnOk, IsTrue, Option};
 ghost use Rattle.serde_json.specs.Data.{depth};
 ghost use Rattle.serde_json.specs.Read.{max_depth};
 ghost use Rattle.serde_json.specs.View.{view};
@@ -14,7 +14,8 @@ ghost use Rattle.jwt_c_calls.specs.Status.{key_as_secret, number};
 ghost use Rattle.jwt_c_calls.specs.Keys.{AnswersWithKey, AnswersWithOptions, AnswersWithSet};
 ghost use Rattle.jwt_c_calls.specs.TestNumbers.{test_number as number_of_test};
 ghost use Rattle.jwt_c_calls.specs.Verifiers.{limits_of, unless_zero, problem_status};
-ghost use Rattle.jwt_c_calls.specs.Verifiers.{AnswersUntil, AreOfKey};
+ghost use Rattle.jwt_base.specs.declared.algorithms.AlgorithmFamily.{AlgorithmFamily as Family};
+ghost use Rattle.jwt_c_calls.specs.Verifiers.{AnswersUntil, AreOfKey, IsFamilyFor};
 ghost use Rattle.jwt_c_calls.specs.Verifiers.{AreOfSecret, AreOfSet, IsMade, IsRefusedWith};
 ghost use Rattle.jwt_c_calls.specs.Verifiers.{AreRefused, HaveKeyText, HaveNoKeyText};
 
@@ -131,10 +132,12 @@ pub fn decode_with_expiry(
     token: &[u8],
     time: u64,
 ) -> Result<Accepted, TokenRefusal>
-    ensures ok { IfOk result (λ a. (length token.now ≤ verifier.now.limits.max_len)
-        × AnswersUntil verifier.now.keys.keys verifier.now.validation token.now time a.last
+    ensures ok { (f : Option Family) → IsFamilyFor verifier.now token.now f → IfOk result (λ a.
+        (length token.now ≤ verifier.now.limits.max_len)
+        × AnswersUntil f verifier.now.keys.keys verifier.now.validation token.now time a.last
         (Returns a.text.items)) }
-    ensures err { IfErr result (λ d. IsRefusedWith verifier.now token.now time d.status d.test) }
+    ensures err { (f : Option Family) → IsFamilyFor verifier.now token.now f
+        → IfErr result (λ d. IsRefusedWith f verifier.now token.now time d.status d.test) }
 {
     match verifier.decode_or_refusal::<Value>(alloc, token, time) {
         Ok(decoded) => {
