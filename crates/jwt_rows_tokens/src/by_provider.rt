@@ -51,6 +51,7 @@ fn answer_by<P: CryptoProvider>(call: &str, row: &Row<'_>, provider: &P) -> Answ
         "decode_with_set"
         | "decode_with_set_or_refusal"
         | "decode_with_set_by_own_algorithm"
+        | "decode_by_family"
         | "failed_test, set" => tokens::check_by_set(call, row, provider),
         "first_and_last_moment" | "first_and_last_moment::<u64>" => {
             tokens::moments_by_key(call, row, provider)

@@ -5,7 +5,7 @@ use jsonwebtoken::dangerous::{insecure_decode, insecure_decode_claims};
 use jsonwebtoken::jwk::JwkSet;
 use jsonwebtoken::jws::{self, Jws};
 use jsonwebtoken::{
-    DecodingKey, KeysOfSet, OneKey, TokenData, Validation, decode, decode_header,
+    DecodingKey, KeysOfSet, OneKey, TokenData, Validation, decode, decode_by_family, decode_header,
     decode_or_refusal, decode_with_set, decode_with_set_by_own_algorithm,
     decode_with_set_or_refusal, failed_test, first_and_last_moment, signed_part,
 };
@@ -68,6 +68,10 @@ pub fn check_by_set<P: CryptoProvider>(call: &str, row: &Row<'_>, provider: &P) 
         }
         "decode_with_set_or_refusal" => {
             row.end(decode_with_set_or_refusal::<P, Value>(a, provider, token, set, options, time))
+        }
+        "decode_by_family" => {
+            let keys = KeysOfSet { provider, set };
+            row.end(decode_by_family::<_, Value>(a, &keys, token, options, time))
         }
         "decode_with_set_by_own_algorithm" => {
             let (_, decoded) = decode_with_set_by_own_algorithm::<P, Value>(
