@@ -16,7 +16,7 @@
 //! Ok(Answer {
 //!     status: 1,
 //!     output: refusal_text(alloc, case.checked(), order, validation, reason, form)?,
-//!     message: String::new(alloc),
+//!     message: skipped_note(alloc, case.loaded.skipped)?,
 //! })
 //! ```
 #![tactic(auto)]
