@@ -12,8 +12,10 @@ use Rattle.jwt_keys.specs.Provider.{KeyAnswers, reads_no_key}
 use Rattle.jwt_keys.specs.JwkOfKey.{StandsFor, answered, jwk_of, parameters_of, rsa_of, uncompressed, elliptic_of}
 use Rattle.jwt_keys.specs.declared.jwk.Jwk.{Jwk}
 use Rattle.jwt_key_files.specs.Certificates.{IsCertificatePemOf}
+use Rattle.jwt_key_files.specs.Files.{IsFileOf}
 use Rattle.jwt_key_files.specs.PemKeys.{IsBlockOf, IsPemOf}
 use Rattle.jwt_key_files.specs.JwksOfPem.{IsRead, IsJwkOf, IsWritable}
+use Rattle.jwt_key_files.specs.PublicKeys.{IsPublicKey}
 use Rattle.jwt_key_files.specs.declared.scheme.Scheme.TheVariants as scheme
 
 read_block : (block der : List ℕ) (key : Key) → IsBlockOf block der key → IsRead key
@@ -27,6 +29,14 @@ read_pem text key h = read_block h.block h.der key h.is_key
 
 pub read_certified : (text : List ℕ) (key : Key) → IsCertificatePemOf text key → IsRead key
 read_certified text key h = let i = h.1.1.1.1 in (i.algorithm, (i.octets, i.is_key))
+
+read_public : (bytes : List ℕ) (key : Key) → IsPublicKey bytes key → IsRead key
+read_public bytes key (inl rsa) = (scheme.Rsa, (bytes, rsa))
+read_public bytes key (inr info) = (info.algorithm, (info.octets, info.is_key))
+
+pub read_file : (bytes : List ℕ) (key : Key) → IsFileOf bytes key → IsRead key
+read_file bytes key (inl pem) = read_pem bytes key pem.1
+read_file bytes key (inr der) = read_public bytes key der.1
 
 pub stands_for : (jwk : Jwk) (k l : Key) → l ≡ k → StandsFor jwk.algorithm k → StandsFor jwk.algorithm l
 stands_for jwk k l e h = subst (StandsFor jwk.algorithm) (sym e) h

@@ -1,5 +1,6 @@
 pub mod Blocks
 pub mod Certificates
+pub mod Files
 pub mod Identifiers
 pub mod JwksOfPem
 pub mod Numbers

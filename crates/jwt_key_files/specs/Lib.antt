@@ -1,6 +1,7 @@
 pub mod Certificates
 pub mod Der
 pub mod EcdsaSignatures
+pub mod Files
 pub mod JwksOfPem
 pub mod Pem
 pub mod PemKeys

@@ -3,8 +3,8 @@
 // A chain, its dates and its uses are another library's work; who has verified them, or pins the
 // certificate, needs the key alone.
 
-ghost use Rattle.std.specs.Prelude.{◌≡◌, ◌≢◌, ◌⊎◌, ℕ, List, [], ◌∷◌, ◌++◌, IfOk, IfErr};
-ghost use Rattle.std.specs.Prelude.{MatchOption};
+ghost use Rattle.std.specs.Prelude.{◌≡◌, ◌≢◌, ◌⊎◌, ◌↔◌, ℕ, List, [], ◌∷◌, ◌++◌, IfOk, IfErr};
+ghost use Rattle.std.specs.Prelude.{IsTrue, MatchOption};
 ghost use Rattle.jwt_base.specs.KindOf.{kind_of, IsMemory};
 ghost use Rattle.jwt_keys.specs.Key.{Key};
 ghost use Rattle.jwt_key_files.specs.Der.{element};
@@ -12,10 +12,11 @@ ghost use Rattle.jwt_key_files.specs.Certificates.{IsAfter, serial_to_subject, I
 ghost use Rattle.jwt_key_files.specs.Certificates.{IsCertificate, IsCertificateOf};
 ghost use Rattle.jwt_key_files.specs.Certificates.{IsCertificateRefused, HoldsCertificate};
 ghost use Rattle.jwt_key_files.specs.Certificates.{IsCertificatePemOf, IsCertificatePemRefused};
+ghost use Rattle.jwt_key_files.specs.Files.{IsLabelledCertificate};
 
 use crate::block::{block_bytes, first_block};
 use crate::element::{read, read_all};
-use crate::pem::info_key;
+use crate::pem::{info_key, is_labelled};
 use crate::public_key::invalid_key;
 use jwt_base::errors::Result;
 use jwt_keys::decoding_key::DecodingKey;
@@ -58,6 +59,17 @@ pub fn unverified_key_from_certificate_pem(alloc: Global, pem: &[u8]) -> Result<
     };
     let key = unverified_key_from_certificate(alloc, der.as_slice())?;
     Ok(key)
+}
+
+/// Returns whether the first block of a text in PEM is labelled as a certificate (RFC 7468 section
+/// 5). The block is not decoded.
+pub fn is_certificate(bytes: &[u8]) -> bool
+    ensures { IsTrue result ↔ IsLabelledCertificate bytes.now }
+{
+    let Some(block) = first_block(bytes) else {
+        return false;
+    };
+    is_labelled(b"CERTIFICATE", block)
 }
 
 // Returns the SubjectPublicKeyInfo of a certificate.

@@ -1,4 +1,4 @@
-//! JSON Web Keys of public keys, and of certificates, in PEM.
+//! JSON Web Keys of public keys in PEM and DER, and of certificates in PEM.
 
 // The JSON Web Key of a key in PEM needs no provider, since the key has its numbers;
 // `HmacProvider`, which reads no keys, stands in.
@@ -11,9 +11,12 @@ ghost use Rattle.jwt_key_files.specs.PemKeys.{IsPemOf, IsPemRefused};
 ghost use Rattle.jwt_key_files.specs.JwksOfPem.{IsRead, IsJwkOf, IsJwkOfPem, IsWritable};
 ghost use Rattle.jwt_key_files.specs.JwksOfPem.{IsJwkOfCertificatePem};
 ghost use Rattle.jwt_key_files.specs.Certificates.{IsCertificatePemRefused};
+ghost use Rattle.jwt_key_files.specs.Files.{IsFileOf, IsFileRefused, IsJwkOfFile};
 
+use crate::block::first_block;
 use crate::certificate::unverified_key_from_certificate_pem;
 use crate::pem::public_key_from_pem;
+use crate::public_key::public_key_from_der;
 use jwt_base::errors::Result;
 use jwt_crypto::HmacProvider;
 use jwt_keys::decoding_key::DecodingKey;
@@ -35,6 +38,30 @@ pub fn jwk_from_pem(alloc: Global, pem: &[u8]) -> Result<Jwk>
     // named for the proof
     let jwk = jwk_of(alloc, &key)?;
     Ok(jwk)
+}
+
+/// Returns the JSON Web Key of the public key of a file, as `jwk_from_pem` does. Bytes with a line
+/// that begins with `-----BEGIN ` are read as PEM, and all others as DER. The refusals are those of
+/// `public_key_from_pem` and of `public_key_from_der`.
+pub fn jwk_from_file(alloc: Global, bytes: &[u8]) -> Result<Jwk>
+    ensures ok { IfOk result (IsJwkOfFile bytes.now) }
+    ensures writable { IfOk result IsWritable }
+    ensures err { IfErr result (λ e. IsMemory e ⊎ IsFileRefused bytes.now (kind_of e)) }
+{
+    let key = file_key(alloc, bytes)?;
+    let jwk = jwk_of(alloc, &key)?;
+    Ok(jwk)
+}
+
+// Returns the public key of a file.
+fn file_key(alloc: Global, bytes: &[u8]) -> Result<DecodingKey>
+    ensures ok { IfOk result (IsFileOf bytes.now) }
+    ensures err { IfErr result (λ e. IsMemory e ⊎ IsFileRefused bytes.now (kind_of e)) }
+{
+    match first_block(bytes) {
+        Some(_) => public_key_from_pem(alloc, bytes),
+        None => public_key_from_der(alloc, bytes),
+    }
 }
 
 /// Returns the JSON Web Key of the public key of the X.509 certificate that the first block of a PEM

@@ -83,7 +83,7 @@ fn names_private(block: &[u8]) -> bool
 }
 
 // Returns whether the block has this label.
-fn is_labelled(label: &[u8], block: &[u8]) -> bool
+pub(crate) fn is_labelled(label: &[u8], block: &[u8]) -> bool
     ensures { IsTrue result ↔ IsLabelled label.now block.now }
 {
     let Some(rest) = after(label, block) else {
