@@ -136,22 +136,6 @@ module _ (f : AlgorithmFamily) (listed : List Algorithm) where
         sym e ∙ some.4,
   )
 
-  empty_left : (l : List Algorithm) → or_else l listed ≡ [] → listed ≡ []
-  empty_left [] e = e
-  empty_left (b ∷ l) e = absurd (cc)
-
-  pub left_empty : left ≡ [] → listed ≡ []
-  left_empty e = empty_left here e
-
--- an empty list stays empty, and no other one becomes so
-pub some_are_left : (f : Option AlgorithmFamily) (listed : List Algorithm) → ¬ (listed ≡ []) → ¬ (left_for f listed ≡ [])
-some_are_left None listed some e = some e
-some_are_left (Some f) listed some e = some (left_empty f listed e)
-
-pub none_are_left : (f : Option AlgorithmFamily) (listed : List Algorithm) → listed ≡ [] → left_for f listed ≡ []
-none_are_left None listed e = e
-none_are_left (Some f) listed e = ap (left_for (Some f)) e
-
 -- ---- algorithms of one family
 
 or_same : (l : List Algorithm) → or_else l l ≡ l

@@ -8,7 +8,7 @@ use Rattle.jwt_keys.specs.Key.{Key}
 use Rattle.jwt_header.specs.Header.{ReadsHeader, header_value}
 use Rattle.jwt_header.specs.HeaderWritten.{normal_header, HasNormalForm}
 use Rattle.jsonwebtoken.specs.Order.{Decides, Passes}
-use Rattle.jsonwebtoken.specs.Issue.{Payload, NoClaims, WrittenAs, Issue, IssueTest, KeyFitsAlgorithm, SignerIsMade}
+use Rattle.jsonwebtoken.specs.Issue.{Payload, NoClaims, WrittenAs, Issue, IssueTest, KeyIsOfFamily, SignerIsMade}
 use Rattle.jsonwebtoken.specs.Issue.{HeaderIsWritten, ClaimsAreWritten, MessageIsSigned, Written, AreWritten}
 use Rattle.jsonwebtoken.specs.Issue.{payload_part, IssueCondition, AreIssued, ReadsBack, issue_tests}
 use Rattle.jsonwebtoken.specs.private_clauses.IssueSteps.{IsPartOf, IsPayloadOf, IssueFailsAt, IssueStep}
@@ -21,18 +21,18 @@ use Rattle.jsonwebtoken.proofs.Engine as engine
 -- ---- the orders
 
 abbrev number : IssueTest → ℕ
-number KeyFitsAlgorithm = 0
+number KeyIsOfFamily = 0
 number SignerIsMade = 1
 number HeaderIsWritten = 2
 number ClaimsAreWritten = 3
 number MessageIsSigned = 4
 
 abbrev every_test : List IssueTest
-every_test = KeyFitsAlgorithm ∷ SignerIsMade ∷ HeaderIsWritten ∷ ClaimsAreWritten ∷ MessageIsSigned ∷ []
+every_test = KeyIsOfFamily ∷ SignerIsMade ∷ HeaderIsWritten ∷ ClaimsAreWritten ∷ MessageIsSigned ∷ []
 
 at_number : (c : IssueTest) → slice_get every_test (number c) ≡ Some c
 at_number = elim [
-  | KeyFitsAlgorithm ↦ refl
+  | KeyIsOfFamily ↦ refl
   | SignerIsMade ↦ refl
   | HeaderIsWritten ↦ refl
   | ClaimsAreWritten ↦ refl
@@ -44,7 +44,7 @@ abbrev pub written_known : List IssueTest → Bool
 written_known b = engine.has number HeaderIsWritten b && engine.has number ClaimsAreWritten b
 
 abbrev ready : IssueTest → List IssueTest → Bool
-ready KeyFitsAlgorithm b = true
+ready KeyIsOfFamily b = true
 ready SignerIsMade b = true
 ready HeaderIsWritten b = true
 ready ClaimsAreWritten b = true
@@ -80,7 +80,7 @@ module _ (issue : Issue) where
 
   fails_for : (b : List IssueTest) (t s : Written) → Passes (issue_tests issue) b t → Passes (issue_tests issue) b s
       → (c : IssueTest) → ready c b ≡ true → IssueFailsAt issue c t → IssueCondition issue c s → ⊥
-  fails_for b t s p q KeyFitsAlgorithm e none h = none h
+  fails_for b t s p q KeyIsOfFamily e none h = none h
   fails_for b t s p q SignerIsMade e none h = none h
   fails_for b t s p q HeaderIsWritten e none h = none s.header_value h
   fails_for b t s p q ClaimsAreWritten e none h = none s.claims_value h

@@ -41,7 +41,7 @@ pub record Issue : Type 1 where
 -- ---- the tests
 
 pub data IssueTest : Type 0 where
-  KeyFitsAlgorithm : IssueTest
+  KeyIsOfFamily : IssueTest
   SignerIsMade : IssueTest
   HeaderIsWritten : IssueTest
   ClaimsAreWritten : IssueTest
@@ -73,7 +73,7 @@ message_to_sign t = part_of t.header_value ++ dot ∷ payload_part t.claims_valu
 module _ (issue : Issue) where
   -- the condition of each test (RFC 7515 sections 4.1.1 and 5.1, RFC 7519 section 7.1)
   abbrev pub IssueCondition : IssueTest → Written → Type 0
-  IssueCondition KeyFitsAlgorithm t = issue.key.family ≡ family_of issue.header.alg
+  IssueCondition KeyIsOfFamily t = issue.key.family ≡ family_of issue.header.alg
   IssueCondition SignerIsMade t = issue.signer_refusal issue.header.alg issue.key ≡ None
   IssueCondition HeaderIsWritten t = header_value issue.header ≡ Some t.header_value
   IssueCondition ClaimsAreWritten t = AreWritten issue.payload t.claims_value
@@ -82,7 +82,7 @@ module _ (issue : Issue) where
 
   -- the kinds of a failed test
   abbrev pub IssueKind : IssueTest → Written → Kind → Type 0
-  IssueKind KeyFitsAlgorithm t k = k ≡ kind.InvalidAlgorithm
+  IssueKind KeyIsOfFamily t k = k ≡ kind.InvalidAlgorithm
   IssueKind SignerIsMade t k = issue.signer_refusal issue.header.alg issue.key ≡ Some k
   IssueKind HeaderIsWritten t k = k ≡ kind.Json
   IssueKind ClaimsAreWritten t k = k ≡ kind.Json
@@ -111,12 +111,12 @@ module _ (issue : Issue) where
 -- the order of `encode` (RFC 7515 section 5.1, RFC 7519 section 7.1)
 abbrev pub encode_order : List IssueTest
 encode_order =
-    KeyFitsAlgorithm ∷ SignerIsMade ∷ HeaderIsWritten ∷ ClaimsAreWritten ∷ MessageIsSigned ∷ []
+    KeyIsOfFamily ∷ SignerIsMade ∷ HeaderIsWritten ∷ ClaimsAreWritten ∷ MessageIsSigned ∷ []
 
 -- the order of `jws::encode` (RFC 7515 section 5.1, RFC 7519 section 7.1)
 abbrev pub jws_encode_order : List IssueTest
 jws_encode_order =
-    KeyFitsAlgorithm ∷ HeaderIsWritten ∷ ClaimsAreWritten ∷ SignerIsMade ∷ MessageIsSigned ∷ []
+    KeyIsOfFamily ∷ HeaderIsWritten ∷ ClaimsAreWritten ∷ SignerIsMade ∷ MessageIsSigned ∷ []
 
 -- ---- the calls
 

@@ -1,6 +1,6 @@
 //! The tests of a token in its compact form, over any finder of keys.
 
-// `read_claims` makes all tests that follow those of the header. The three calls that are public put
+// `read_claims` makes all tests that follow those of the header. The four calls that are public put
 // header and claims together themselves: a function that returns them to another moves the header,
 // which is large, once more for each token, and so does `?`.
 
