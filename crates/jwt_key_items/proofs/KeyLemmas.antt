@@ -80,7 +80,7 @@ module _ (jwk : Jwk) (key : Key) (is : IsKeyOf jwk.algorithm key) where
   no_key_text not b = not (subst HasKeyText (one_key jwk.algorithm _ _ b.1 is) b.2)
 
   pub not_by : (a : Algorithm) → ¬ (verifier_refusal a key ≡ None) → ¬ VerifiesWith jwk a
-  not_by a not v = not (subst (λ k. verifier_refusal a k ≡ None) (one_key jwk.algorithm _ _ v.1.1 is) v.1.2)
+  not_by a not v = not (subst (λ k. verifier_refusal a k ≡ None) (one_key jwk.algorithm _ _ v.2.1 is) v.2.2)
 
 -- the two kinds of the refusal of parameters that no key has
 pub two_refusals : (p : AlgorithmParameters) → (refusal_of p ≡ kind.UnsupportedAlgorithm) ⊎ (refusal_of p ≡ kind.Base64)

@@ -1,6 +1,6 @@
 -- Key sets, item by item: which keys are kept, and why the other items are skipped (RFC 7517 section 5).
 use Rattle.std.specs.Prelude.{◌≡◌, ◌⊎◌, ◌+◌, ◌^◌, ℕ, List, [], ◌∷◌, Option, Some, None, IsTrue, Bool, true, false, codes}
-use Rattle.std.specs.Prelude.{MatchOption}
+use Rattle.std.specs.Prelude.{⊤, length, MatchOption}
 use Rattle.std.specs.List.{All, Any, filter_map}
 use Rattle.serde_json.specs.Data.{Data, array, Items, no_items, item}
 use Rattle.serde_json.specs.Find.{get}
@@ -12,6 +12,10 @@ use Rattle.jwt_keys.specs.Jwk.{ReadsKey}
 use Rattle.jwt_keys.specs.Key.{Key}
 use Rattle.jwt_keys.specs.KeyOfJwk.{IsKeyOf, refusal_of}
 use Rattle.jwt_keys.specs.declared.jwk.Jwk.{Jwk}
+use Rattle.jwt_params.specs.declared.curves.EllipticCurve.{EllipticCurve}
+use Rattle.jwt_params.specs.declared.curves.EllipticCurve.TheVariants as curve
+use Rattle.jwt_params.specs.declared.parameters.AlgorithmParameters.{AlgorithmParameters}
+use Rattle.jwt_params.specs.declared.parameters.AlgorithmParameters.TheVariants as types
 use Rattle.jwt_params.specs.declared.uses.PublicKeyUse.TheVariants.{Signature}
 use Rattle.jwt_secrets.specs.Blank.{IsBlankJwk}
 use Rattle.jwt_secrets.specs.KeyTexts.{JwkHasKeyText}
@@ -38,9 +42,32 @@ abbrev pub AgreesWith : Algorithm → Jwk → Type 0
 AgreesWith a jwk =
     (jwk.common.key_algorithm ≡ None) ⊎ (jwk.common.key_algorithm ≡ Some (key_algorithm_of a))
 
--- a token of the algorithm can be verified with it: its `alg` agrees, and a verifier is made with its key
+-- coordinates of the lengths of these texts are those of a point on the curve: 43 characters of base64url are 32 octets, and
+-- 64 are 48 (RFC 7518 sections 6.2.1.2 and 6.2.1.3)
+abbrev pub ArePointTexts : EllipticCurve → (x y : ℕ) → Type 0
+ArePointTexts curve.P256 x y = (x ≡ 43) × (y ≡ 43)
+ArePointTexts curve.P384 x y = (x ≡ 64) × (y ≡ 64)
+ArePointTexts curve.P521 x y = ⊥
+ArePointTexts curve.Ed25519 x y = ⊥
+
+-- the same of a key of Ed25519 (RFC 8037 section 2)
+abbrev pub IsEdwardsText : EllipticCurve → (x : ℕ) → Type 0
+IsEdwardsText curve.P256 x = ⊥
+IsEdwardsText curve.P384 x = ⊥
+IsEdwardsText curve.P521 x = ⊥
+IsEdwardsText curve.Ed25519 x = x ≡ 43
+
+-- the key is on the curve that its `crv` names, as far as lengths tell
+abbrev pub HasNamedCurve : AlgorithmParameters → Type 0
+HasNamedCurve (types.EllipticCurve p) = ArePointTexts p.curve (length p.x) (length p.y)
+HasNamedCurve (types.RSA p) = ⊤
+HasNamedCurve (types.OctetKey p) = ⊤
+HasNamedCurve (types.OctetKeyPair p) = IsEdwardsText p.curve (length p.x)
+HasNamedCurve (types.Other p) = ⊤
+
+-- a token of the algorithm can be verified with it: its `alg` and its `crv` agree, and a verifier is made with its key
 abbrev pub VerifiesWith : Jwk → Algorithm → Type 0
-VerifiesWith jwk a = AgreesWith a jwk
+VerifiesWith jwk a = AgreesWith a jwk × HasNamedCurve jwk.algorithm
     × ((key : Key) × IsKeyOf jwk.algorithm key × (verifier_refusal a key ≡ None))
 
 -- it verifies with one of the twelve algorithms

@@ -8,6 +8,7 @@
 #![tactic(auto)]
 
 ghost use Rattle.std.specs.Prelude.{◌≡◌, ◌↔◌, ◌≤◌, List, Some, None, IsTrue, IfOk, IfErr};
+ghost use Rattle.std.specs.Prelude.{MatchOption};
 ghost use Rattle.serde_json.specs.View.{view, items_view};
 ghost use Rattle.jwt_base.specs.JsonText.{ReadsText};
 ghost use Rattle.jwt_base.specs.Kind as kind;
@@ -16,6 +17,7 @@ ghost use Rattle.jwt_keys.specs.JwkSet.{ReadsSet};
 ghost use Rattle.jwt_keys.specs.KeyOfJwk.{IsKeyOf};
 ghost use Rattle.jwt_standard.specs.StandardKeys.{verifier_refusal};
 ghost use Rattle.jwt_key_items.specs.declared.Item.{Item};
+ghost use Rattle.jwt_key_items.specs.KeyItems.{ArePointTexts, HasNamedCurve, IsEdwardsText};
 ghost use Rattle.jwt_key_items.specs.KeyItems.{IsForSignatures, AgreesWith, VerifiesWith, IsBit};
 ghost use Rattle.jwt_key_items.specs.KeyItems.{AreBitsOf, IsUsage, IsItem, AreItems, ReadsItems};
 ghost use Rattle.jwt_key_items.specs.KeyItems.{kept_key, kept_of, AreAllKept};
@@ -27,6 +29,8 @@ use jwt_keys::decoding_key::DecodingKey;
 use jwt_keys::jwk::Jwk;
 use jwt_keys::jwk_set::JwkSet;
 use jwt_keys::provider::CryptoProvider;
+use jwt_params::curves::EllipticCurve;
+use jwt_params::parameters::AlgorithmParameters;
 use jwt_params::uses::PublicKeyUse;
 use jwt_secrets::is_blank_key;
 use jwt_secrets::key_texts::has_key_text;
@@ -46,8 +50,9 @@ pub enum Reason {
     Base64,
     /// The `use` is other than `sig` (RFC 7517 section 4.2).
     NotForSignatures,
-    /// None of the twelve algorithms verifies with the key: it is too short or not on its curve, or
-    /// its `alg` is for another key or unknown (RFC 7518 section 3.1).
+    /// None of the twelve algorithms verifies with the key: it is too short, or not on its curve, or
+    /// its `crv` names another curve (RFC 7518 section 6.2.1), or its `alg` is for another key or
+    /// unknown (section 3.1).
     Unfit,
     /// The secret is empty or all zeros (RFC 2104 section 2).
     AllZero,
@@ -75,6 +80,32 @@ pub struct Item {
 }
 
 impl Item {
+    /// Returns the key, if it is kept.
+    pub fn kept(&self) -> Option<&Jwk>
+        ensures { MatchOption result (kept_key self.now ≡ None)
+            (λ jwk. kept_key self.now ≡ Some jwk.now) }
+    {
+        match self.usage {
+            Usage::Kept(_) => self.key.as_ref(),
+            Usage::Skipped(_) => None,
+        }
+    }
+
+    /// Returns a copy. The only refusal is `OutOfMemory`.
+    pub fn clone(&self, alloc: Global) -> Result<Item>
+        ensures ok { IfOk result (λ i. i ≡ self.now) }
+        ensures err { IfErr result IsMemory }
+    {
+        let key = match &self.key {
+            Some(key) => Some(key.clone(alloc)?),
+            None => None,
+        };
+        Ok(Item {
+            key,
+            usage: self.usage,
+        })
+    }
+
     /// Returns the key, if it is kept.
     pub fn into_kept(self) -> Option<Jwk>
         ensures { result ≡ kept_key self }
@@ -268,7 +299,7 @@ fn bit_of(
     ensures within { IfOk result (λ given. given ≤ bit) }
     ensures err { IfErr result IsMemory }
 {
-    if agrees(jwk, algorithm) && serves(alloc, key, algorithm)? {
+    if agrees(jwk, algorithm) && has_named_curve(&jwk.algorithm) && serves(alloc, key, algorithm)? {
         Ok(bit)
     } else {
         Ok(0)
@@ -281,6 +312,40 @@ fn agrees(jwk: &Jwk, algorithm: Algorithm) -> bool
     match jwk.common.key_algorithm {
         Some(named) => named == KeyAlgorithm::from(algorithm),
         None => true,
+    }
+}
+
+// Returns whether the coordinates of a key have the length of the curve that its `crv` names.
+fn has_named_curve(parameters: &AlgorithmParameters) -> bool
+    ensures { IsTrue result ↔ HasNamedCurve parameters.now }
+{
+    match parameters {
+        AlgorithmParameters::EllipticCurve(key) => {
+            is_point(&key.curve, key.x.as_str().len(), key.y.as_str().len())
+        }
+        AlgorithmParameters::OctetKeyPair(key) => {
+            is_edwards_key(&key.curve, key.x.as_str().len())
+        }
+        _ => true,
+    }
+}
+
+fn is_point(curve: &EllipticCurve, x: usize, y: usize) -> bool
+    ensures { IsTrue result ↔ ArePointTexts curve.now x y }
+{
+    match curve {
+        EllipticCurve::P256 => x == 43 && y == 43,
+        EllipticCurve::P384 => x == 64 && y == 64,
+        _ => false,
+    }
+}
+
+fn is_edwards_key(curve: &EllipticCurve, x: usize) -> bool
+    ensures { IsTrue result ↔ IsEdwardsText curve.now x }
+{
+    match curve {
+        EllipticCurve::Ed25519 => x == 43,
+        _ => false,
     }
 }
 
