@@ -1,11 +1,11 @@
 //! JSON Web Tokens for C. `packages/c/include/jwtproved.h` describes how each is called.
 //!
 //! The clause of each call says that the status, the length and the buffer hold a result that the
-//! library's own definitions allow. Nothing is kept between calls but the verifiers that C holds.
+//! library's own definitions allow. Nothing is kept between calls but the handles of keys and verifiers that C holds.
 //!
 //! For programs in C, and for the packages for Python, Rust, Go and nginx, which call nothing else.
 //! A call is a function with the header's name that leaves the answer of a function of
-//! `jwt_c_calls` in the caller's buffer: `jwt_decode_set` leaves that of `set_answer`.
+//! `jwt_c_calls` in the caller's buffer: `jwt_encode_hmac` leaves that of `encode_answer`.
 //!
 //! `packages/c/examples` has programs to start from.
 
@@ -14,13 +14,13 @@
 // accepted and refused exclude each other, and no further clause says that nothing is lost.
 //
 // The library for C is two crates: what calls return, as functions over slices and results, and
-// the struct that holds a verifier (`jwt_c_calls`); the exports alone (`jwt_c`), since they are
+// the struct of a handle (`jwt_c_calls`); the exports alone (`jwt_c`), since they are
 // proved twice: `rt ci` only checks a static library, and `tools/prove` builds it then, by rattle
 // over the libraries that `rt ci` built, or by `rt lib`, which proves these again.
 
 #![tactic(auto)]
 
-ghost use Rattle.std.specs.Prelude.{◌≡◌, ℕ, List, Option, length, None, Some};
+ghost use Rattle.std.specs.Prelude.{◌≡◌, ℕ, Option, None, Some};
 ghost use Rattle.jwt_base.specs.declared.algorithms.AlgorithmFamily.{AlgorithmFamily as Family};
 ghost use Rattle.jwt_base.specs.Algorithm.{name_of};
 ghost use Rattle.jwt_base.specs.Kind.{Kind};
@@ -28,126 +28,50 @@ ghost use Rattle.jwt_base.specs.declared.algorithms.Algorithm.{Algorithm};
 ghost use Rattle.jsonwebtoken.specs.TestName.{test_name};
 ghost use Rattle.jsonwebtoken.specs.declared.refusal.Test.{Test};
 ghost use Rattle.jwt_c_calls.specs.BySignature.{AnswersSignature, AnswersEcdsa, LeavesInput};
-ghost use Rattle.jwt_c_calls.specs.Calls.{Answer, Leaves, LeavesSigned, AnswersHmac, AnswersKey};
-ghost use Rattle.jwt_c_calls.specs.Calls.{AnswersSet, AnswersGivenVerdict, AnswersIssuedAt, AnswersNumbers};
-ghost use Rattle.jwt_c_calls.specs.Calls.{status_of};
+ghost use Rattle.jwt_c_calls.specs.Calls.{Answer, Leaves, LeavesSigned, AnswersGivenVerdict};
+ghost use Rattle.jwt_c_calls.specs.Calls.{AnswersIssuedAt, AnswersNumbers, status_of};
 ghost use Rattle.jwt_c_calls.specs.ClaimRules.{AnswersRules};
-ghost use Rattle.jwt_c_calls.specs.Issued.{hash_numbered, AnswersEncode, AnswersThumbprint};
-ghost use Rattle.jwt_c_calls.specs.KeyFiles.{AnswersCertificate, AnswersPem};
-ghost use Rattle.jwt_c_calls.specs.Keys.{AnswersWithKey, AnswersWithOptions, AnswersWithSet};
+ghost use Rattle.jwt_c_calls.specs.Contents.{keys_in};
+ghost use Rattle.jwt_c_calls.specs.Held.{LeavesAdded, LeavesInfo, LeavesKey, LeavesMade, LeavesShared};
+ghost use Rattle.jwt_c_calls.specs.Held.{LeavesThumbprint, LeavesUntil, IsFamilyIn, info_held, key_held};
+ghost use Rattle.jwt_c_calls.specs.Issued.{AnswersEncode};
+ghost use Rattle.jwt_c_calls.specs.KeyForms.{AnswersText, hash_numbered};
+ghost use Rattle.jwt_c_calls.specs.KeySources.{source_numbered};
 ghost use Rattle.jwt_c_calls.specs.Members.{LeavesMember};
 ghost use Rattle.jwt_c_calls.specs.Membership.{ChecksMember};
 ghost use Rattle.jwt_c_calls.specs.Options.{AnswersFault, AnswersQuoted};
-ghost use Rattle.jwt_c_calls.specs.Secrets.{ChecksSecret, ChecksKey, ChecksSet};
-ghost use Rattle.jwt_c_calls.specs.Serving.{AnswersAlgorithms};
 ghost use Rattle.jwt_c_calls.specs.Signatures.{AnswersVerifyHmac, AnswersVerifyKey};
 ghost use Rattle.jwt_c_calls.specs.Status.{algorithm_numbered, kind_part, number as status_number, told_text};
 ghost use Rattle.jwt_c_calls.specs.TestNumbers.{test_number};
 ghost use Rattle.jwt_c_calls.specs.Texts.{IsNumberOfName, LeavesText, text_numbered};
 ghost use Rattle.jwt_c_calls.specs.Unverified.{LeavesPart};
-ghost use Rattle.jwt_c_calls.specs.Verifiers.{limits_of, AreOfKey, AreOfSecret, AreOfSet};
-ghost use Rattle.jwt_c_calls.specs.Held.{LeavesMade, LeavesShared, LeavesUntil, FitsVerifier};
-ghost use Rattle.jwt_c_calls.specs.Held.{HasOneFamily, IsFamilyIn};
+ghost use Rattle.jwt_c_calls.specs.Verifiers.{limits_of};
 ghost use Rattle.jwt_c.specs.Issued.{LeavesByKey};
 
 use jsonwebtoken::signed_part;
-use jwt_c_calls::answers::{
-    CallerVerdict, given_verdict_answer, hmac_answer, issued_at_answer, key_answer, numbers_answer,
-    set_answer,
-};
+use jwt_c_calls::answers::{CallerVerdict, given_verdict_answer, issued_at_answer, numbers_answer};
 use jwt_c_calls::by_signature::{ecdsa_answer, input_answer, signature_answer};
 use jwt_c_calls::claim_rules::rules_answer;
 use jwt_c_calls::handle::Handle;
-use jwt_c_calls::handle_results::{store, write_handle, write_verdict};
-use jwt_c_calls::issued::{encode_answer, encode_key_answer, thumbprint_answer};
-use jwt_c_calls::key_files::{certificate_answer, pem_answer};
+use jwt_c_calls::handle_results::{
+    add_keys, answer_in, info_in, leave_key, share, verifier_from, write_handle, write_verdict,
+};
+use jwt_c_calls::held_keys::KeyInfo;
+use jwt_c_calls::issued::{encode_answer, encode_key_answer};
+use jwt_c_calls::key_forms::{KeyForm, numbered_hash};
+use jwt_c_calls::key_sources::numbered_source;
 use jwt_c_calls::members::member_answer;
 use jwt_c_calls::membership::member_status;
 use jwt_c_calls::options::{options_answer, quoted_answer};
-use jwt_c_calls::secrets::{key_status, secret_status, set_status};
-use jwt_c_calls::serving::algorithms_answer;
+use jwt_c_calls::secrets::key_status;
 use jwt_c_calls::signatures::{hmac_signature_answer, key_signature_answer};
 use jwt_c_calls::status::{algorithm_number, leave, number_of, put_bytes, status_of};
-use jwt_c_calls::status_table::{NO_MEMBER, NO_VERIFIER, OK, UNKNOWN_NUMBER, VERIFIER_IN_USE};
+use jwt_c_calls::status_table::{
+    INVALID_ALGORITHM_NAME, NO_MEMBER, NO_VERIFIER, OK, UNKNOWN_NUMBER,
+};
 use jwt_c_calls::texts::{number_of_name, text_numbered};
 use jwt_c_calls::unverified::{numbered_part, part_answer};
-use jwt_c_calls::verifiers::{
-    decode_with_expiry, limits, verifier_of_key, verifier_of_secret, verifier_of_set,
-};
 use std::alloc::Global;
-
-/// Verifies a token with HMAC and a secret, at the time `time`, and writes its claims as JSON. The
-/// options are the JSON text of [`Validation::from_value`](jsonwebtoken::Validation::from_value),
-/// and are read first.
-#[unsafe(no_mangle)]
-pub extern "C" fn jwt_decode_hmac(
-    alloc: Global,
-    token: &[u8],
-    secret: &[u8],
-    options: &[u8],
-    time: u64,
-    room: &mut [u8],
-    len: &mut usize,
-) -> u32
-    ensures { (a : Answer) × AnswersHmac options.now token.now secret.now time a
-        × Leaves a result len.new room.old room.new }
-{
-    let answer = hmac_answer(alloc, token, secret, options, time);
-    leave(answer, room, len)
-}
-
-/// Verifies a token with a key, by any of the twelve algorithms, at the time `time`, and writes its
-/// claims as JSON.
-///
-/// The key is the JSON text of one JSON Web Key (RFC 7517 section 4) of any kind: a secret, RSA, an
-/// elliptic curve, Ed25519. Its own `alg`, `use`, `key_ops` and `kid` are not compared with the
-/// token: the options' `algorithms` alone fix the algorithm.
-///
-/// The tests are made in this order, and a refusal has the status of the first that fails:
-///
-/// - the options' text describes options, else 101;
-/// - the key's text describes a key, else 106;
-/// - [`DecodingKey::from_jwk`](jsonwebtoken::DecodingKey::from_jwk) makes a key of it, else its
-///   kind: `Base64` for a member that is not base64url text, `UnsupportedAlgorithm` for any other
-///   kind of key;
-/// - the tests of [`decode`](jsonwebtoken::decode) by `StandardProvider`, in their order.
-#[unsafe(no_mangle)]
-pub extern "C" fn jwt_decode_key(
-    alloc: Global,
-    token: &[u8],
-    key: &[u8],
-    options: &[u8],
-    time: u64,
-    room: &mut [u8],
-    len: &mut usize,
-) -> u32
-    ensures { (a : Answer) × AnswersKey options.now token.now key.now time a
-        × Leaves a result len.new room.old room.new }
-{
-    let answer = key_answer(alloc, token, key, options, time);
-    leave(answer, room, len)
-}
-
-/// Verifies a token like `jwt_decode_key`, with the key of a set that the token's header names by
-/// its `kid`. The set is a JSON text (RFC 7517 section 5), and is read after the options; any other
-/// text is refused with 103. The tests are those of
-/// [`decode_with_set`](jsonwebtoken::decode_with_set) by `StandardProvider`.
-#[unsafe(no_mangle)]
-pub extern "C" fn jwt_decode_set(
-    alloc: Global,
-    token: &[u8],
-    set: &[u8],
-    options: &[u8],
-    time: u64,
-    room: &mut [u8],
-    len: &mut usize,
-) -> u32
-    ensures { (a : Answer) × AnswersSet options.now token.now set.now time a
-        × Leaves a result len.new room.old room.new }
-{
-    let answer = set_answer(alloc, token, set, options, time);
-    leave(answer, room, len)
-}
 
 /// Verifies a token whose signature the caller has checked: `verdict` is the yes or no to this
 /// signature of this message by the algorithm of this number. A number of no algorithm is refused
@@ -312,9 +236,9 @@ pub extern "C" fn jwt_encode_hmac(
 }
 
 /// Signs a header and claims like `jwt_encode_hmac`, with the secret of a JSON Web Key of the type
-/// `oct` (RFC 7518 section 6.4). The key is a JSON text. It is checked first, as by
-/// `jwt_check_key`: any other text is refused with 106, a secret with which anyone can sign with
-/// 107, and one that is the text of a key of another kind with 113. A key of which
+/// `oct` (RFC 7518 section 6.4). The key is a JSON text. It is checked first: any other text is
+/// refused with 106, a secret with which anyone can sign with 107, and one that is the text of a key
+/// of another kind with 113. A key of which
 /// [`DecodingKey::from_jwk`](jsonwebtoken::DecodingKey::from_jwk) makes none is refused with its
 /// kind after the claims are read, and then a key of another family with `InvalidKeyFormat`.
 #[unsafe(no_mangle)]
@@ -402,83 +326,6 @@ pub extern "C" fn jwt_ecdsa_signature(
     leave(answer, room, len)
 }
 
-/// Writes the thumbprint (RFC 7638) of a key, which is a JSON text, by SHA-2 with this many bits. A
-/// number of no hash is refused with `InvalidAlgorithmName`, before the key is read.
-#[unsafe(no_mangle)]
-pub extern "C" fn jwt_thumbprint(
-    alloc: Global,
-    key: &[u8],
-    bits: u32,
-    room: &mut [u8],
-    len: &mut usize,
-) -> u32
-    ensures { (a : Answer) × AnswersThumbprint (hash_numbered bits) key.now a
-        × Leaves a result len.new room.old room.new }
-{
-    let answer = thumbprint_answer(alloc, key, bits);
-    leave(answer, room, len)
-}
-
-/// Writes the JSON Web Key of the public key that the first block of a PEM text holds, without
-/// `alg` and other common members. The refusals are those of
-/// [`public_key_from_pem`](jwt_key_files::pem::public_key_from_pem): `Provider` for a private key,
-/// `UnsupportedAlgorithm` for a key of another algorithm, and `InvalidKeyFormat` for any other
-/// text.
-#[unsafe(no_mangle)]
-pub extern "C" fn jwt_key_from_pem(
-    alloc: Global,
-    pem: &[u8],
-    room: &mut [u8],
-    len: &mut usize,
-) -> u32
-    ensures { (a : Answer) × AnswersPem pem.now a × Leaves a result len.new room.old room.new }
-{
-    let answer = pem_answer(alloc, pem);
-    leave(answer, room, len)
-}
-
-/// Writes the JSON Web Key of the public key of the X.509 certificate that the first block of a PEM
-/// text holds, like `jwt_key_from_pem`. NOTHING of the certificate IS VERIFIED. The refusals are
-/// those of
-/// [`unverified_key_from_certificate_pem`](jwt_key_files::certificate::unverified_key_from_certificate_pem):
-/// `UnsupportedAlgorithm` for a key of another algorithm, and `InvalidKeyFormat` for any other
-/// text.
-#[unsafe(no_mangle)]
-pub extern "C" fn jwt_key_from_certificate(
-    alloc: Global,
-    pem: &[u8],
-    room: &mut [u8],
-    len: &mut usize,
-) -> u32
-    ensures { (a : Answer) × AnswersCertificate pem.now a
-        × Leaves a result len.new room.old room.new }
-{
-    let answer = certificate_answer(alloc, pem);
-    leave(answer, room, len)
-}
-
-/// Sets `bits` to the algorithms that the key which a JSON Web Key stands for serves: the bit of an
-/// algorithm's number is set if a verifier of `StandardProvider` is made by it with the key, and no
-/// other is. The key is a JSON text; its own `alg`, `use` and `key_ops` are ignored. Any other text
-/// is refused with 106, and a key of which
-/// [`DecodingKey::from_jwk`](jsonwebtoken::DecodingKey::from_jwk) makes none with its kind: then
-/// `bits` is 0.
-#[unsafe(no_mangle)]
-pub extern "C" fn jwt_key_algorithms(alloc: Global, key: &[u8], bits: &mut u32) -> u32
-    ensures { (a : Answer) × AnswersAlgorithms key.now bits.new a × (result ≡ status_of a) }
-{
-    match algorithms_answer(alloc, key) {
-        Ok(found) => {
-            *bits = found;
-            OK.0
-        }
-        Err(refusal) => {
-            *bits = 0;
-            status_of(&refusal)
-        }
-    }
-}
-
 /// Writes a text as a JSON string, with its quotation marks, for options: what else the text says
 /// can't become a member of them. The JSON is read back as the text. Bytes that are not UTF-8 are
 /// refused with `Utf8`. The only other refusal is `OutOfMemory`.
@@ -531,136 +378,165 @@ pub extern "C" fn jwt_check_issued_at(issued_at: u64, leeway: u64, time: u64) ->
     }
 }
 
-/// Checks that not everybody can sign with a secret: returns 107 if every byte of it is 0, as in
-/// the empty one. HMAC fills a secret that is shorter than a block up with zeros (RFC 2104 section
-/// 2). Returns 113 if it is the text of a key of another kind, or base64 of one, and else 0: a
-/// public key is known (RFC 8725 section 3.1). The only other refusal is `OutOfMemory`.
-#[unsafe(no_mangle)]
-pub extern "C" fn jwt_check_secret(alloc: Global, secret: &[u8]) -> u32
-    ensures { ChecksSecret secret.now result }
-{
-    secret_status(alloc, secret)
-}
-
-/// Checks that not everybody can sign for a key, which is a JSON text (RFC 7517 section 4): returns
-/// 107 or 113 if the key that it stands for is a secret of which `jwt_check_secret` does, and else
-/// 0, also if it stands for no key. For any other text it returns 106. The only other refusal is
-/// `OutOfMemory`.
-#[unsafe(no_mangle)]
-pub extern "C" fn jwt_check_key(alloc: Global, key: &[u8]) -> u32
-    ensures { ChecksKey key.now result }
-{
-    key_status(alloc, key)
-}
-
-/// Checks that not everybody can sign for a key of a set, which is a JSON text (RFC 7517 section
-/// 5): returns 107 if `jwt_check_key` does for one of its keys, or else 113 if that does, and else
-/// 0. For any other text it returns 103. The only other refusal is `OutOfMemory`.
-#[unsafe(no_mangle)]
-pub extern "C" fn jwt_check_set(alloc: Global, set: &[u8]) -> u32
-    ensures { ChecksSet set.now result }
-{
-    set_status(alloc, set)
-}
-
-/// Makes the verifier with the options and the key set that two texts describe (RFC 7517 section
-/// 5), for tokens of up to `max_len` bytes, or of up to 1 MiB if that is 0. It keeps prepared keys of
-/// up to `max_prepared` bytes, or of up to 64 MiB if that is 0; the others verify too. With another
-/// status than 0 the handle holds none:
+/// Reads the keys that some bytes are, and adds them after those that the handle holds. All together
+/// are one set then. The source is 1 for a text, 2 for a secret, 3 for a certificate in PEM, of which
+/// NOTHING IS VERIFIED, and 4 for the text of a key set alone; any other number is 102.
 ///
-/// - 101 or 103 if a text is refused, as by `jwt_decode_set`;
-/// - 107 if anyone can sign with a key of the set (RFC 2104 section 2), unless `allows_blank`;
-/// - 110 if no key of the set that has a `kid` verifies with any of the algorithms of the options;
-/// - 109 if the handle holds a verifier already, which is unchanged.
+/// A text is a key set (RFC 7517 section 5), one JSON Web Key, or the file of a public key in PEM or
+/// DER. Each item of a set is kept if the library verifies with it, and skipped otherwise:
+/// [`usage_of`](jwt_key_items::usage_of) has the conditions. One key that is not in a set is refused
+/// with the status of the reason for which it would be skipped. `items` is set to the number of
+/// items, and `kept` to that of the kept ones. With another status than 0 the handle holds what it
+/// held, and both are 0:
+///
+/// - 117 if the handle holds a verifier;
+/// - 18 for a private key in PEM or DER, 7 for a public key of another algorithm, 116 for a
+///   certificate that is given as a text;
+/// - 106 for any other bytes.
 #[unsafe(no_mangle)]
-pub extern "C" fn jwt_verifier_set(
+pub extern "C" fn jwt_keys_add(
     alloc: Global,
-    set: &[u8],
-    options: &[u8],
-    max_len: usize,
-    allows_blank: bool,
-    max_prepared: usize,
-    verifier: &mut Handle,
+    keys: &mut Handle,
+    source: u32,
+    bytes: &[u8],
+    items: &mut usize,
+    kept: &mut usize,
 ) -> u32
-    ensures { LeavesMade (AnswersWithSet options.now set.now (λ _ _ _. ⊥))
-        (AreOfSet options.now set.now) (limits_of max_len allows_blank max_prepared)
-        verifier.old.held verifier.new.held result }
+    ensures { LeavesAdded (source_numbered source) bytes.now keys.old.held keys.new.held items.new
+        kept.new result }
 {
-    let allowed = limits(max_len, allows_blank, max_prepared);
-    let made = verifier_of_set(alloc, options, set, allowed);
-    write_handle(alloc, made, verifier)
-}
-
-/// Makes the verifier with the options and the key that two texts describe, like
-/// `jwt_verifier_set`. The text of the key is one JSON Web Key (RFC 7517 section 4); one that is
-/// refused is refused as by `jwt_decode_key`.
-#[unsafe(no_mangle)]
-pub extern "C" fn jwt_verifier_key(
-    alloc: Global,
-    key: &[u8],
-    options: &[u8],
-    max_len: usize,
-    allows_blank: bool,
-    max_prepared: usize,
-    verifier: &mut Handle,
-) -> u32
-    ensures { LeavesMade (AnswersWithKey options.now key.now (λ _ _ _. ⊥))
-        (AreOfKey options.now key.now) (limits_of max_len allows_blank max_prepared)
-        verifier.old.held verifier.new.held result }
-{
-    let allowed = limits(max_len, allows_blank, max_prepared);
-    let made = verifier_of_key(alloc, options, key, allowed);
-    write_handle(alloc, made, verifier)
-}
-
-/// Makes the verifier with the options that a text describes, and a secret, for HMAC, like
-/// `jwt_verifier_set`. It verifies as with a JSON Web Key of the secret.
-#[unsafe(no_mangle)]
-pub extern "C" fn jwt_verifier_secret(
-    alloc: Global,
-    secret: &[u8],
-    options: &[u8],
-    max_len: usize,
-    allows_blank: bool,
-    max_prepared: usize,
-    verifier: &mut Handle,
-) -> u32
-    ensures { LeavesMade (AnswersWithOptions options.now (λ _ _. ⊥))
-        (AreOfSecret options.now secret.now) (limits_of max_len allows_blank max_prepared)
-        verifier.old.held verifier.new.held result }
-{
-    let allowed = limits(max_len, allows_blank, max_prepared);
-    let made = verifier_of_secret(alloc, options, secret, allowed);
-    write_handle(alloc, made, verifier)
-}
-
-/// Leaves one more handle of a verifier, for another thread: 0; 22 if memory ran out; 108 if the
-/// first handle holds none; 109 if the other holds one already, which is unchanged.
-#[unsafe(no_mangle)]
-pub extern "C" fn jwt_verifier_share(
-    alloc: Global,
-    verifier: &mut Handle,
-    other: &mut Handle,
-) -> u32
-    ensures held { verifier.new.held ≡ verifier.old.held }
-    ensures other { LeavesShared verifier.old.held other.old.held other.new.held result }
-{
-    if let Some(held) = other.take(alloc) {
-        *other = Handle::of(held);
-        return VERIFIER_IN_USE.0;
-    }
-    match verifier.take(alloc) {
-        Some(made) => {
-            let status = store(alloc, made.share().ok(), other);
-            *verifier = Handle::of(made);
+    let added = match numbered_source(source) {
+        Some(source) => add_keys(alloc, source, bytes, keys),
+        None => Err(UNKNOWN_NUMBER.0),
+    };
+    match added {
+        Ok(added) => {
+            *items = added.items;
+            *kept = added.kept;
+            OK.0
+        }
+        Err(status) => {
+            *items = 0;
+            *kept = 0;
             status
         }
-        None => NO_VERIFIER.0,
     }
 }
 
-/// Verifies a token at the time `time`, and writes its claims as JSON: what `jwt_decode_set` or
-/// `jwt_decode_key` writes with the texts that the verifier was made of. It sets `last` to the last
+/// Sets `info` to what the item at this place of a handle can do: 0, or the status of the reason for
+/// which it is skipped, and the algorithms that verify with it and by which the library signs with
+/// it, each as the bit of its number. The place `usize::MAX` stands for all items together. Another
+/// place without an item is 102, and a handle without keys 117: then all numbers of `info` are 0.
+#[unsafe(no_mangle)]
+pub extern "C" fn jwt_keys_info(
+    alloc: Global,
+    keys: &mut Handle,
+    at: usize,
+    info: &mut KeyInfo,
+) -> u32
+    ensures held { keys.new.held ≡ keys.old.held }
+    ensures info { LeavesInfo (info_held (keys_in keys.old.held) at) info.new result }
+{
+    match info_in(alloc, keys, at) {
+        Ok(found) => {
+            *info = found;
+            OK.0
+        }
+        Err(status) => {
+            *info = KeyInfo {
+                status: 0,
+                verifies: 0,
+                signs: 0,
+            };
+            status
+        }
+    }
+}
+
+/// Writes the JSON Web Key (RFC 7517 section 4) of the item at this place of a handle, which may be
+/// skipped, as compact JSON. An item that is not a key is 106, a place without an item 102, and a
+/// handle without keys 117.
+#[unsafe(no_mangle)]
+pub extern "C" fn jwt_keys_text(
+    alloc: Global,
+    keys: &mut Handle,
+    at: usize,
+    room: &mut [u8],
+    len: &mut usize,
+) -> u32
+    ensures held { keys.new.held ≡ keys.old.held }
+    ensures text { LeavesKey AnswersText (key_held (keys_in keys.old.held) at) result len.new
+        room.old room.new }
+{
+    leave_key(alloc, keys, at, KeyForm::Text, room, len)
+}
+
+/// Writes the thumbprint (RFC 7638) of the item at this place of a handle, by SHA-2 with this many
+/// bits. A number of no hash is refused with `InvalidAlgorithmName`, and a place like by
+/// `jwt_keys_text`.
+#[unsafe(no_mangle)]
+pub extern "C" fn jwt_thumbprint(
+    alloc: Global,
+    keys: &mut Handle,
+    at: usize,
+    bits: u32,
+    room: &mut [u8],
+    len: &mut usize,
+) -> u32
+    ensures held { keys.new.held ≡ keys.old.held }
+    ensures thumbprint { LeavesThumbprint (hash_numbered bits) (key_held (keys_in keys.old.held) at)
+        result len.new room.old room.new }
+{
+    match numbered_hash(bits) {
+        Some(hash) => leave_key(alloc, keys, at, KeyForm::Thumbprint(hash), room, len),
+        None => {
+            *len = 0;
+            INVALID_ALGORITHM_NAME.0
+        }
+    }
+}
+
+/// Makes the verifier with the keys of a handle and the options that a text describes, for tokens of
+/// up to `max_len` bytes, or of up to 1 MiB if that is 0. It keeps prepared keys of up to
+/// `max_prepared` bytes, or of up to 64 MiB if that is 0; the others verify too. With another status
+/// than 0 no verifier is made:
+///
+/// - 109 if the verifier's handle holds something, which is unchanged;
+/// - 117 if the keys' handle holds no keys;
+/// - 101 if the text is not options;
+/// - 110 if no kept key verifies with any of the algorithms of the options, and agrees with it by its
+///   own `alg`. In a set such a key needs a `kid`.
+///
+/// One key that is not in a set verifies each token, and several keys are a set, in which the token's
+/// `kid` selects the key.
+#[unsafe(no_mangle)]
+pub extern "C" fn jwt_verifier_new(
+    alloc: Global,
+    keys: &mut Handle,
+    options: &[u8],
+    max_len: usize,
+    max_prepared: usize,
+    verifier: &mut Handle,
+) -> u32
+    ensures held { keys.new.held ≡ keys.old.held }
+    ensures made { LeavesMade (keys_in keys.old.held) options.now (limits_of max_len max_prepared)
+        verifier.old.held verifier.new.held result }
+{
+    let made = verifier_from(alloc, keys, options, max_len, max_prepared);
+    write_handle(alloc, made, verifier)
+}
+
+/// Leaves one more handle of what the first holds, for another thread: 0; 22 if memory ran out; 108
+/// if the first handle holds nothing; 109 if the other holds something, which is unchanged.
+#[unsafe(no_mangle)]
+pub extern "C" fn jwt_share(alloc: Global, handle: &mut Handle, other: &mut Handle) -> u32
+    ensures held { handle.new.held ≡ handle.old.held }
+    ensures other { LeavesShared handle.old.held other.old.held other.new.held result }
+{
+    share(alloc, handle, other)
+}
+
+/// Verifies a token at the time `time`, and writes its claims as JSON. It sets `last` to the last
 /// time at which it accepts the token, or to 0 if it refuses it, and `test` to the number of the
 /// first test that failed, or to 0 if none did. The status is 108 for a handle that holds no
 /// verifier, and 111 for a token that is longer than the verifier allows, of which nothing is read.
@@ -680,22 +556,11 @@ pub extern "C" fn jwt_verifier_decode(
     ensures decided { (f : Option Family) → IsFamilyIn verifier.old.held token.now f
         → LeavesUntil f verifier.old.held token.now time last.new test.new result len.new
         room.old room.new }
-
-    // What the calls without a verifier leave, with any texts that it was made of, if all listed
-    // algorithms are of one family.
-    ensures set { (options set : List ℕ) → HasOneFamily verifier.old.held
-        → FitsVerifier verifier.old.held (AreOfSet options set) (length token.now)
-        → (a : Answer) × AnswersSet options token.now set time a
-        × Leaves a result len.new room.old room.new }
-    ensures key { (options key : List ℕ) → HasOneFamily verifier.old.held
-        → FitsVerifier verifier.old.held (AreOfKey options key) (length token.now)
-        → (a : Answer) × AnswersKey options token.now key time a
-        × Leaves a result len.new room.old room.new }
 {
     match verifier.take(alloc) {
-        Some(made) => {
-            let answer = decode_with_expiry(alloc, &made.verifier, token, time);
-            *verifier = Handle::of(made);
+        Some(held) => {
+            let answer = answer_in(alloc, &*held, token, time);
+            *verifier = Handle::of(held);
             write_verdict(answer, room, len, last, test)
         }
         None => {
@@ -707,13 +572,13 @@ pub extern "C" fn jwt_verifier_decode(
     }
 }
 
-/// Frees the verifier that a handle holds, if it holds one: with the last handle of it, its keys.
-/// Then the handle holds none.
+/// Frees what a handle holds, if it holds something: a verifier with the last handle of it. Then the
+/// handle holds nothing.
 #[unsafe(no_mangle)]
-pub extern "C" fn jwt_verifier_free(alloc: Global, verifier: &mut Handle)
-    ensures { verifier.new.held ≡ None }
+pub extern "C" fn jwt_free(alloc: Global, handle: &mut Handle)
+    ensures { handle.new.held ≡ None }
 {
-    *verifier = Handle::none(alloc);
+    *handle = Handle::none(alloc);
 }
 
 /// Writes the member of this name of a JSON object: the bytes of a string, without quotes and

@@ -5,8 +5,7 @@ use Rattle.jwt_base.specs.Kind as kind
 use Rattle.jwt_base.specs.KindOf.{RefusesAs, kind_of}
 use Rattle.jwt_base.specs.declared.errors.Error.{Error}
 use Rattle.jwt_c_calls.specs.BySignature.{AnswersInput, LeavesInput}
-use Rattle.jwt_c_calls.specs.Calls.{Answer, Returns, Refuses, InputError, Leaves, AnswersBy, AnswersHmac, AnswersKey, AnswersSet, answer_of, answer_in, refusal_status}
-use Rattle.jwt_c_calls.specs.Keys.{AnswersWithKey, AnswersWithOptions, AnswersWithSet}
+use Rattle.jwt_c_calls.specs.Calls.{Answer, Returns, Refuses, InputError, Leaves, AnswersBy, answer_of, answer_in, refusal_status}
 use Rattle.jwt_c_calls.specs.Inputs.{IsReadAs}
 use Rattle.jwt_c_calls.specs.Status.{IsGiven, IsKept}
 use Rattle.jwt_c_calls.specs.declared.inputs.Input.{Input}
@@ -56,30 +55,6 @@ pub read_ok : {T : Type 0} (P : T → Type 0) (input : Input) (r : Result T Erro
     → IfOk r P → P v
 read_ok P input (Ok w) v p q = rw p q
 read_ok P input (Err e) v p q = absurd p
-
--- the refusal of options is one of the call
-pub no_options : (options token secret : List ℕ) (time : ℕ) (a : Answer) → AnswersWithOptions options (λ _ _. ⊥) a
-    → AnswersHmac options token secret time a
-no_options options token secret time (Returns b) x = absurd x.2
-no_options options token secret time (Refuses k) (inl memory) = inl memory
-no_options options token secret time (Refuses k) (inr x) = absurd x.2
-no_options options token secret time (InputError i) x = x
-
--- likewise of options and a set
-pub no_set : (options token set : List ℕ) (time : ℕ) (a : Answer) → AnswersWithSet options set (λ _ _ _. ⊥) a
-    → AnswersSet options token set time a
-no_set options token set time (Returns b) x = absurd x.2
-no_set options token set time (Refuses k) (inl memory) = inl memory
-no_set options token set time (Refuses k) (inr x) = absurd x.2
-no_set options token set time (InputError i) x = x
-
--- likewise of options and a key
-pub no_key : (options token key : List ℕ) (time : ℕ) (a : Answer) → AnswersWithKey options key (λ _ _ _. ⊥) a
-    → AnswersKey options token key time a
-no_key options token key time (Returns b) x = absurd x.2.2
-no_key options token key time (Refuses k) (inl memory) = inl memory
-no_key options token key time (Refuses k) (inr x) = inr (x.0, x.1, inl x.2)
-no_key options token key time (InputError i) x = x
 
 -- a refusal leaves no message
 pub no_message : (header claims : List ℕ) (r : CallError) (n s len : ℕ) (old new : List ℕ)

@@ -1,34 +1,31 @@
 -- What the calls with a verifier leave, over plain values.
-use Rattle.std.proofs.Common.{◌≡◌, ◌∙◌, ◌≤◌, ◌<◌, ℕ, List, length, Option, Some, None, Result, Ok, Err, IfOk, IfErr}
-use Rattle.std.proofs.Common.{arith, inl, inr, sym, subst}
-use Rattle.jwt_base.specs.Kind.{Kind}
-use Rattle.jwt_base.specs.Kind as kind
+use Rattle.std.proofs.Common.{◌≡◌, ◌∙◌, ◌≤◌, ℕ, List, length, Option, Some, None, Result, Ok, Err, IfOk, IfErr}
+use Rattle.std.proofs.Common.{inl, inr, sym, subst}
+use Rattle.std.specs.Prelude.{MatchOption}
 use Rattle.jwt_base.specs.declared.algorithms.AlgorithmFamily.{AlgorithmFamily}
-use Rattle.jwt_validation.specs.Options.{Options}
-use Rattle.jwt_validation.specs.declared.validation.Validation.{Validation}
-use Rattle.jwt_verifier.specs.declared.keys.Keys.{Keys}
 use Rattle.jwt_verifier.specs.declared.limits.Limits.{Limits}
 use Rattle.jwt_verifier.specs.declared.verifier.Verifier.{Verifier}
-use Rattle.jwt_c_calls.specs.Calls.{Answer, Returns, Refuses, InputError, Leaves, AnswersKey, AnswersSet}
-use Rattle.jwt_c_calls.specs.Status.{IsGiven, IsKept}
-use Rattle.jwt_c_calls.specs.Verifiers.{AnswersUntil, AnswersWith, AreOfKey, AreOfSet, IsMade, IsRefusedWith}
-use Rattle.jwt_c_calls.specs.Verifiers.{IsUnmade, TellsTest}
+use Rattle.jwt_c_calls.specs.Calls.{Returns, Refuses}
+use Rattle.jwt_c_calls.specs.Contents.{verifier_in}
+use Rattle.jwt_c_calls.specs.Held.{AnswersIn, IsHeldAs, IsMadeOf, IsRefusedIn, IsUnmadeOf, LeavesBy, LeavesMade, LeavesUntil}
+use Rattle.jwt_c_calls.specs.KeyLists.{KeyList}
+use Rattle.jwt_c_calls.specs.Status.{no_verifier, IsGiven, IsKept}
+use Rattle.jwt_c_calls.specs.Verifiers.{AnswersUntil, IsRefusedWith, TellsTest}
+use Rattle.jwt_c_calls.specs.declared.content.Content.{Content}
 use Rattle.jwt_c_calls.specs.declared.verifiers.TokenRefusal.{TokenRefusal}
-use Rattle.jwt_c_calls.proofs.Transfers.{by_key, by_set}
-use Rattle.jwt_c_calls.specs.Held.{verifier_in, IsHeldAs, LeavesBy, LeavesMade, LeavesUntil, FitsVerifier}
-use Rattle.jwt_c_calls.specs.declared.shared.Shared.{Shared}
 
 -- ---- making
 
-module _ (Refused : Answer → Type 0) (AreOf : Options → Keys → Type 0) (limits : Limits)
-    (memory : Refused (Refuses kind.OutOfMemory)) where
-  -- a verifier that was made is held, unless memory ran out
-  pub made_of : (made : Result Verifier ℕ) (before after : Option Shared) (status : ℕ) → IsMade Refused AreOf limits made
-      → IsHeldAs made before after status → LeavesMade Refused AreOf limits before after status
-  made_of (Ok v) None None status m h = inl (Refuses kind.OutOfMemory, memory, h)
-  made_of (Err why) None None status m h = subst (IsUnmade Refused AreOf limits.allows_blank) (sym h) m
-  made_of made None (Some s) status m h = (h.0, subst (IsMade Refused AreOf limits) h.1 m)
-  made_of made (Some s) after status m h = h
+-- a verifier that was made is held, unless memory ran out
+pub made_of : (held : Option KeyList) (options : List ℕ) (limits : Limits) (made : Result Verifier ℕ) (before after : Option Content)
+    (status : ℕ) → IfOk made (IsMadeOf held options limits) → IfErr made (IsUnmadeOf held options)
+    → IsHeldAs made before after status → LeavesMade held options limits before after status
+made_of None options limits (Ok v) None None status ok err h = absurd ok
+made_of (Some keys) options limits (Ok v) None None status ok err h = inl h
+made_of held options limits (Err why) None None status ok err h = subst (IsUnmadeOf held options) (sym h) err
+made_of held options limits (Ok v) None (Some c) status ok err h = (h.0, (v, h.1, ok))
+made_of held options limits (Err why) None (Some c) status ok err h = absurd h.1
+made_of held options limits made (Some s) after status ok err h = h
 
 -- ---- verifying
 
@@ -58,54 +55,28 @@ left_by f items last_of v token time (Err d) last test status len old new ok (in
     subst (TellsTest f v.keys.keys v.validation token time short.1.0) (sym kept.1) short.1.2 in
     inr (short.0, (Refuses short.1.0, short.1.1, told, subst (λ (n : ℕ). IsKept n status len old new) short.1.3 kept.2))
 
-pub decided : {V : Type 0} (f : Option AlgorithmFamily) (items : V → List ℕ) (last_of : V → ℕ) (held : Option Shared) (s : Shared) (v : Verifier)
-    (token : List ℕ) (time : ℕ) (r : Result V TokenRefusal) (last test status len : ℕ) (old new : List ℕ)
-    → held ≡ Some s → v ≡ verifier_in s
-    → IfOk r (λ a. (length token ≤ v.limits.max_len) × AnswersUntil f v.keys.keys v.validation token time (last_of a) (Returns (items a)))
-    → IfErr r (λ d. IsRefusedWith f v token time d.status d.test)
+left_in : {V : Type 0} (f : Option AlgorithmFamily) (items : V → List ℕ) (last_of : V → ℕ) (o : Option Verifier) (token : List ℕ)
+    (time : ℕ) (r : Result V TokenRefusal) (last test status len : ℕ) (old new : List ℕ)
+    → IfOk r (λ a. MatchOption o ⊥ (λ v. (length token ≤ v.limits.max_len)
+    × AnswersUntil f v.keys.keys v.validation token time (last_of a) (Returns (items a))))
+    → IfErr r (λ d. MatchOption o ((d.status ≡ no_verifier) × (d.test ≡ 0)) (λ v. IsRefusedWith f v token time d.status d.test))
+    → IfOk r (λ a. (last ≡ last_of a) × (test ≡ 0) × IsGiven (items a) status len old new)
+    → IfErr r (λ d. (last ≡ 0) × (test ≡ d.test) × IsKept d.status status len old new)
+    → MatchOption o ((last ≡ 0) × (test ≡ 0) × IsKept no_verifier status len old new)
+    (λ v. LeavesBy f v token time last test status len old new)
+left_in f items last_of None token time (Ok a) last test status len old new ok err given kept = absurd ok
+left_in f items last_of None token time (Err d) last test status len old new ok err given kept =
+    (kept.0, kept.1 ∙ err.1, subst (λ (n : ℕ). IsKept n status len old new) err.0 kept.2)
+left_in f items last_of (Some v) token time r last test status len old new ok err given kept =
+    left_by f items last_of v token time r last test status len old new ok err given kept
+
+pub decided : {V : Type 0} (f : Option AlgorithmFamily) (items : V → List ℕ) (last_of : V → ℕ) (held : Option Content) (c : Content)
+    (token : List ℕ) (time : ℕ) (r : Result V TokenRefusal) (last test status len : ℕ) (old new : List ℕ) → held ≡ Some c
+    → IfOk r (λ a. AnswersIn f (Some c) token time (last_of a) (items a))
+    → IfErr r (λ d. IsRefusedIn f (Some c) token time d.status d.test)
     → IfOk r (λ a. (last ≡ last_of a) × (test ≡ 0) × IsGiven (items a) status len old new)
     → IfErr r (λ d. (last ≡ 0) × (test ≡ d.test) × IsKept d.status status len old new)
     → LeavesUntil f held token time last test status len old new
-decided f items last_of held s v token time r last test status len old new h e ok err given kept =
-    let left : LeavesBy f (verifier_in s) token time last test status len old new =
-    subst (λ (w : Verifier). LeavesBy f w token time last test status len old new) e
-    (left_by f items last_of v token time r last test status len old new ok err given kept) in
-    subst (λ (o : Option Shared). LeavesUntil f o token time last test status len old new) (sym h) left
-
--- the answer without the last time
-without_last : (f : Option AlgorithmFamily) (keys : Keys) (validation : Validation) (token : List ℕ) (time last : ℕ) (a : Answer)
-    → AnswersUntil f keys validation token time last a → AnswersWith f keys validation token time a
-without_last f keys validation token time last (Returns b) x = (tt, tt, (x.2.0, x.2.1.0, x.2.2))
-without_last f keys validation token time last (Refuses k) x = x
-without_last f keys validation token time last (InputError i) x = x
-
--- which is what the calls leave with the texts that the verifier was made of, if all algorithms are of one family
-pub as_set : (held : Option Shared) (token : List ℕ) (time last test status len : ℕ) (old new : List ℕ)
-    → LeavesUntil None held token time last test status len old new
-    → (options set : List ℕ) → FitsVerifier held (AreOfSet options set) (length token)
-    → (a : Answer) × AnswersSet options token set time a × Leaves a status len old new
-as_set None token time last test status len old new d options set takes = absurd takes
-as_set (Some s) token time last test status len old new (inl long) options set takes =
-    let over : (verifier_in s).limits.max_len < length token = long.0 in
-    let within : length token ≤ (verifier_in s).limits.max_len = takes.1 in absurd (omega arith)
-as_set (Some s) token time last test status len old new (inr left) options set takes =
-    let keys = (verifier_in s).keys.keys in let validation = (verifier_in s).validation in let a = left.1.0 in (
-      a,
-      by_set options set token time keys validation a takes.0 (without_last None keys validation token time last a left.1.1),
-      left.1.3,
-    )
-
-pub as_key : (held : Option Shared) (token : List ℕ) (time last test status len : ℕ) (old new : List ℕ)
-    → LeavesUntil None held token time last test status len old new
-    → (options key : List ℕ) → FitsVerifier held (AreOfKey options key) (length token)
-    → (a : Answer) × AnswersKey options token key time a × Leaves a status len old new
-as_key None token time last test status len old new d options key takes = absurd takes
-as_key (Some s) token time last test status len old new (inl long) options key takes =
-    let over : (verifier_in s).limits.max_len < length token = long.0 in
-    let within : length token ≤ (verifier_in s).limits.max_len = takes.1 in absurd (omega arith)
-as_key (Some s) token time last test status len old new (inr left) options key takes =
-    let keys = (verifier_in s).keys.keys in let validation = (verifier_in s).validation in let a = left.1.0 in (
-      a,
-      by_key options key token time keys validation a takes.0 (without_last None keys validation token time last a left.1.1),
-      left.1.3,
-    )
+decided f items last_of held c token time r last test status len old new h ok err given kept =
+    subst (λ (o : Option Content). LeavesUntil f o token time last test status len old new) (sym h)
+    (left_in f items last_of (verifier_in (Some c)) token time r last test status len old new ok err given kept)

@@ -19,7 +19,7 @@ use Rattle.std.specs.declared.alloc.Global.{Global}
 use Rattle.std.specs.contracts.impls.GlobalAllocator.TheImpl.{ghosts}
 use Rattle.jwt_c_calls.specs.Owned.{handle_owns}
 use Rattle.jwt_c_calls.specs.contracts.handle.Handle as handle
-use Rattle.jwt_c_calls.specs.contracts.shared.Shared as held
+use Rattle.jwt_c_calls.specs.contracts.content.Content as held
 use Rattle.jwt_c_calls.proofs.Values.{both, al}
 
 abbrev pub Z : RattleType

@@ -5,13 +5,16 @@ pub mod Decided
 pub mod Depths
 pub mod Families
 pub mod Handed
+pub mod HeldKeys
 pub mod HandleValues
+pub mod KeySources
+pub mod Agreeing
 pub mod Made
+pub mod Payloads
 pub mod NumberTexts
 pub mod PartDepths
 pub mod Reasons
 pub mod Statuses
-pub mod Transfers
 pub mod Until
 pub mod Values
 pub mod Words

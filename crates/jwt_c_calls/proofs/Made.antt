@@ -1,40 +1,97 @@
--- A verifier that is made of values is made of the texts that describe them.
-use Rattle.std.proofs.Common.{◌≡◌, ◌≤◌, ℕ, Result, Ok, Err, IfOk, IfErr, inl, inr, sym, subst}
-use Rattle.jwt_validation.specs.Options.{Options}
+-- A verifier that is made of keys and options.
+use Rattle.std.proofs.Common.{◌≡◌, ◌≤◌, ap, refl, subst, sym, ℕ, List, Option, Some, None, Result, Ok, Err, IfOk, IfErr, inl, inr}
+use Rattle.std.specs.Prelude.{MatchOption}
+use Rattle.jwt_base.specs.JsonText.{ReadsText}
+use Rattle.jwt_keys.specs.Key.{Key}
+use Rattle.jwt_keys.specs.KeyOfJwk.{IsKeyOf}
+use Rattle.jwt_keys.specs.declared.jwk.Jwk.{Jwk}
+use Rattle.jwt_key_items.specs.KeyItems.{kept_of}
 use Rattle.jwt_validation.specs.OptionsOf.{options_of}
 use Rattle.jwt_validation.specs.declared.validation.Validation.{Validation}
-use Rattle.jwt_verifier.specs.Fitness.{AreFit}
+use Rattle.jsonwebtoken.specs.Own.{with_algorithms}
+use Rattle.jwt_verifier.specs.Fitness.{CanServe}
 use Rattle.jwt_verifier.specs.declared.keys.Keys.{Keys}
+use Rattle.jwt_verifier.specs.declared.keys.Keys.TheVariants.{One}
 use Rattle.jwt_verifier.specs.declared.limits.Limits.{Limits}
 use Rattle.jwt_verifier.specs.declared.verifier.Verifier.{Verifier}
-use Rattle.jwt_c_calls.specs.Calls.{Answer, answer_of, refusal_status}
-use Rattle.jwt_c_calls.specs.declared.inputs.CallError.{CallError}
-use Rattle.jwt_c_calls.specs.declared.inputs.CallError.TheVariants as refused
-use Rattle.jwt_c_calls.specs.Verifiers.{AreRefused, HaveNoKeyText, IsMade, IsUnmade}
+use Rattle.jwt_c_calls.specs.Inputs.{ReadsOptions}
+use Rattle.jwt_c_calls.specs.KeyLists.{KeyList, lone_key}
+use Rattle.jwt_c_calls.specs.Verifiers.{AreAgreeing, AreUsable, HasAgreeing, HasSet, IsOfKey, IsUnfit, IsUnmade, IsVerifierOf}
+use Rattle.jwt_c_calls.specs.Verifiers.{KeyServes, SetServes}
+use Rattle.jwt_c_calls.proofs.Agreeing.{serves, serves_not}
 
-module _ (Refused : Answer → Type 0) (AreOf : Options → Keys → Type 0) (limits : Limits) where
-  -- with the keys and the options that the texts describe
-  pub of_values : (keys : Keys) (validation : Validation) (r : Result Verifier ℕ) → AreOf (options_of validation) keys
-      → IfOk r (λ v. (v.keys.keys ≡ keys) × (v.validation ≡ validation) × (v.limits ≡ limits)
-      × HaveNoKeyText limits.allows_blank keys × AreFit limits.allows_blank validation.algorithms.items keys
-      × (v.keys.prepared ≤ limits.max_prepared))
-      → IfErr r (AreRefused limits.allows_blank validation.algorithms.items keys)
-      → IsMade Refused AreOf limits r
-  of_values keys validation (Ok v) of made problem =
-      let of_keys : AreOf (options_of validation) v.keys.keys = subst (λ (k : Keys). AreOf (options_of validation) k)
-      (sym made.0) of in
-      let fit_keys : AreFit limits.allows_blank validation.algorithms.items v.keys.keys =
-      subst (λ (k : Keys). AreFit limits.allows_blank validation.algorithms.items k) (sym made.0) made.4 in (
-        subst (λ (w : Validation). AreOf (options_of w) v.keys.keys) (sym made.1) of_keys,
-        made.2,
-        subst (HaveNoKeyText limits.allows_blank) (sym made.0) made.3,
-        subst (λ (w : Validation). AreFit limits.allows_blank w.algorithms.items v.keys.keys) (sym made.1) fit_keys,
-        made.5,
-      )
-  of_values keys validation (Err status) of made problem = inr (options_of validation, keys, of, problem)
+-- what is so of a verifier that is made of these keys and options
+abbrev pub IsMadeWith : Keys → Validation → Limits → Verifier → Type 0
+IsMadeWith keys validation limits v = (v.keys.keys ≡ keys) × (v.validation ≡ validation) × (v.limits ≡ limits)
+    × (v.keys.prepared ≤ limits.max_prepared) × CanServe validation.algorithms.items keys
 
-  -- with texts that are refused
-  pub of_refusal : (r : CallError) (status : ℕ) → Refused (answer_of r) → status ≡ refusal_status r
-      → IsUnmade Refused AreOf limits.allows_blank status
-  of_refusal (refused.Input i) status a is = inl (answer_of (refused.Input i), a, is)
-  of_refusal (refused.Token e) status a is = inl (answer_of (refused.Token e), a, is)
+-- ---- of one key, for the algorithms that agree with it
+
+abbrev pub IsMadeOfKey : Jwk → Validation → Limits → Verifier → Type 0
+IsMadeOfKey jwk given limits v = IsOfKey jwk v.keys.keys × AreAgreeing jwk (options_of given) (options_of v.validation)
+    × (v.limits ≡ limits) × (v.keys.prepared ≤ limits.max_prepared) × KeyServes given.algorithms.items jwk
+
+module _ (jwk : Jwk) (given used : Validation) (limits : Limits) (key : Key) (is : IsKeyOf jwk.algorithm key)
+    (has : HasAgreeing jwk given.algorithms.items used.algorithms.items)
+    (same : options_of used ≡ with_algorithms (options_of given) used.algorithms.items) where
+  pub of_key : (r : Result Verifier ℕ) → IfOk r (IsMadeWith (One key) used limits) → IfOk r (IsMadeOfKey jwk given limits)
+  of_key (Ok v) h = (
+    subst (IsOfKey jwk) (sym h.0) is,
+    subst (λ (w : Validation). AreAgreeing jwk (options_of given) (options_of w)) (sym h.1) (same, has),
+    h.2,
+    h.3,
+    serves jwk given.algorithms.items used.algorithms.items has key is h.4,
+  )
+  of_key (Err s) h = tt
+
+  pub not_of_key : (r : Result Verifier ℕ) → IfErr r (IsUnfit (CanServe used.algorithms.items (One key)))
+      → IfErr r (IsUnfit (KeyServes given.algorithms.items jwk))
+  not_of_key (Ok v) h = tt
+  not_of_key (Err s) (inl m) = inl m
+  not_of_key (Err s) (inr u) = inr (u.0, serves_not jwk given.algorithms.items used.algorithms.items has key is u.1)
+
+-- ---- of the keys of a handle
+
+abbrev pub IsMadeOfSet : List Jwk → Validation → Limits → Verifier → Type 0
+IsMadeOfSet kept given limits v = HasSet kept v.keys.keys × (v.validation ≡ given) × (v.limits ≡ limits)
+    × (v.keys.prepared ≤ limits.max_prepared) × SetServes given.algorithms.items kept
+
+module _ (held : KeyList) (text : List ℕ) (given : Validation) (reads : ReadsText ReadsOptions text (options_of given)) where
+  abbrev Usable : Option Jwk → Type 0
+  Usable o = MatchOption o (SetServes given.algorithms.items (kept_of held.items)) (KeyServes given.algorithms.items)
+
+  unusable : (o : Option Jwk) → lone_key held ≡ o → (s : ℕ) → IsUnfit (Usable o) s → IsUnmade held text s
+  unusable o e s (inl m) = inl m
+  unusable o e s (inr u) = inr (inr (u.0, (options_of given, reads, λ usable. u.1 (subst Usable e usable))))
+
+  module _ (limits : Limits) where
+    abbrev Are : Verifier → Option Jwk → Type 0
+    Are v o = MatchOption o (HasSet (kept_of held.items) v.keys.keys × (options_of v.validation ≡ options_of given))
+        (λ jwk. IsOfKey jwk v.keys.keys × AreAgreeing jwk (options_of given) (options_of v.validation))
+
+    made : (v : Verifier) (o : Option Jwk) → lone_key held ≡ o → v.limits ≡ limits → v.keys.prepared ≤ limits.max_prepared → Are v o
+        → Usable o → IsVerifierOf held text limits v
+    made v o e same within are usable =
+        (same, within, (options_of given, reads, subst (Are v) (sym e) are, subst Usable (sym e) usable))
+
+    -- one key that is not in a set
+    pub lone_made : (jwk : Jwk) → lone_key held ≡ Some jwk → (r : Result Verifier ℕ) → IfOk r (IsMadeOfKey jwk given limits)
+        → IfOk r (IsVerifierOf held text limits)
+    lone_made jwk e (Ok v) h = made v (Some jwk) e h.2 h.3 (h.0, h.1) h.4
+    lone_made jwk e (Err s) h = tt
+
+    -- a set
+    pub set_made : lone_key held ≡ None → (r : Result Verifier ℕ) → IfOk r (IsMadeOfSet (kept_of held.items) given limits)
+        → IfOk r (IsVerifierOf held text limits)
+    set_made e (Ok v) h = made v None e h.2 h.3 (h.0, ap options_of h.1) h.4
+    set_made e (Err s) h = tt
+
+  pub lone_unmade : (jwk : Jwk) → lone_key held ≡ Some jwk → (r : Result Verifier ℕ)
+      → IfErr r (IsUnfit (KeyServes given.algorithms.items jwk)) → IfErr r (IsUnmade held text)
+  lone_unmade jwk e (Ok v) h = tt
+  lone_unmade jwk e (Err s) h = unusable (Some jwk) e s h
+
+  pub set_unmade : lone_key held ≡ None → (r : Result Verifier ℕ)
+      → IfErr r (IsUnfit (SetServes given.algorithms.items (kept_of held.items))) → IfErr r (IsUnmade held text)
+  set_unmade e (Ok v) h = tt
+  set_unmade e (Err s) h = unusable None e s h

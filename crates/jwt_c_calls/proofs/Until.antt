@@ -22,7 +22,7 @@ use Rattle.jwt_c_calls.proofs.Handed.{shallow}
 use Rattle.jwt_c_calls.specs.Verifiers.{AnswersUntil, IsLast, verifier_call}
 use Rattle.jwt_c_calls.specs.declared.verifiers.Accepted.{Accepted}
 use Rattle.jwt_c_calls.specs.declared.verifiers.TokenRefusal.{TokenRefusal}
-use Rattle.jwt_c_calls.proofs.Transfers.{payload_is_json}
+use Rattle.jwt_c_calls.proofs.Payloads.{payload_is_json}
 
 has_moments : (f : Option AlgorithmFamily) (keys : Keys) (validation : Validation) (token : List ℕ) (time : ℕ)
     → HasMoments (verifier_call f keys validation token time) (order_of keys)

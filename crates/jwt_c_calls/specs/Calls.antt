@@ -14,20 +14,13 @@ use Rattle.jwt_base.specs.Kind.{Kind}
 use Rattle.jwt_base.specs.Kind as kind
 use Rattle.jwt_base.specs.KindOf.{kind_of}
 use Rattle.jwt_base.specs.declared.algorithms.Algorithm.{Algorithm}
-use Rattle.jwt_base.specs.declared.algorithms.AlgorithmFamily.TheVariants.{Hmac}
 use Rattle.jwt_base.specs.declared.errors.Error.{Error}
-use Rattle.jwt_keys.specs.Key.{Key, Plain}
-use Rattle.jwt_keys.specs.Jwk.{ReadsKey}
-use Rattle.jwt_keys.specs.JwkSet.{ReadsSet}
-use Rattle.jwt_keys.specs.KeyOfJwk.{IsKeyOf, refusal_of}
-use Rattle.jwt_keys.specs.declared.jwk.Jwk.{Jwk}
-use Rattle.jwt_standard.specs.StandardKeys.{verifier_refusal, StandardAccepts}
+use Rattle.jwt_keys.specs.Key.{Plain}
 use Rattle.jwt_validation.specs.Options.{Options}
 use Rattle.jwt_c_calls.specs.Inputs.{ReadsOptions}
 use Rattle.jwt_crypto.specs.Verdict.{Verdict, IsVerified, refusal_by}
-use Rattle.jsonwebtoken.specs.ByHmac.{decoding_by_hmac}
 use Rattle.jsonwebtoken.specs.Order.{Passes, FailsFirst}
-use Rattle.jsonwebtoken.specs.Tests.{Call, Compact, Contents, Given, InSet, decode_order, set_order}
+use Rattle.jsonwebtoken.specs.Tests.{Call, Compact, Contents, Given, decode_order}
 use Rattle.jsonwebtoken.specs.Tests.{signed_order, header_call, message_of, verifying_call, token_tests}
 use Rattle.jsonwebtoken.specs.Vouched.{IsVouched}
 use Rattle.jwt_c_calls.specs.Inputs.{ReadsClaimsText}
@@ -91,28 +84,11 @@ AnswersBy Reads IsInputError Shows Refused (InputError i) = IsInputError i
 
 -- ---- claims
 
--- `decode` with HMAC and the secret
-abbrev pub hmac_call : List ℕ → List ℕ → ℕ → Options → Call Value
-hmac_call token secret time options =
-    decoding_by_hmac IsValue token (Given (Plain Hmac secret)) options time
-
 -- `decode` with a verdict
 abbrev pub verdict_call : List ℕ → Verdict → ℕ → Options → Call Value
 verdict_call token v time options =
     verifying_call (Compact token) (Given (Plain (family_of v.algorithm) [])) options time
     (refusal_by v) (λ _ _. IsVerified v) IsValue
-
--- `decode` by all twelve algorithms, with the key
-abbrev pub key_call : List ℕ → Key → ℕ → Options → Call Value
-key_call token key time options =
-    verifying_call (Compact token) (Given key) options time
-    verifier_refusal StandardAccepts IsValue
-
--- `decode_with_set` by all twelve algorithms
-abbrev pub set_call : List ℕ → List Jwk → ℕ → Options → Call Value
-set_call token keys time options =
-    verifying_call (Compact token) (InSet keys) options time
-    verifier_refusal StandardAccepts IsValue
 
 -- the text is the JSON of the claims of accepted contents
 abbrev pub IsClaimsText : (Contents → Type 0) → List ℕ → Type 0
@@ -125,43 +101,6 @@ abbrev pub AnswersWhere : List ℕ → (Options → Contents → Type 0) → (Op
 AnswersWhere text Accepted Refused = AnswersBy
     (ReadsText ReadsOptions text) (IsErrorOfOne input.Options (ReadsText ReadsOptions text))
     (λ o. IsClaimsText (Accepted o)) Refused
-
--- accepted contents pass every test of `decode`; a refusal has the kind of the first that fails
--- (RFC 7519 section 7.2)
-abbrev pub AnswersHmac : List ℕ → List ℕ → List ℕ → ℕ → Answer → Type 0
-AnswersHmac text token secret time = AnswersWhere text
-    (λ o. Passes (token_tests (hmac_call token secret time o)) decode_order)
-    (λ o. FailsFirst (token_tests (hmac_call token secret time o)) decode_order)
-
--- the same for `decode_with_set`; the options' text is read before that of the key set
-abbrev pub AnswersSet : List ℕ → List ℕ → List ℕ → ℕ → Answer → Type 0
-AnswersSet text token set time = AnswersBy {E = Options × List Jwk}
-    (λ e. ReadsText ReadsOptions text e.0 × ReadsText ReadsSet set e.1)
-    (IsErrorOfTwo input.Options (ReadsText ReadsOptions text) input.Set (ReadsText ReadsSet set))
-    (λ e. IsClaimsText (Passes (token_tests (set_call token e.1 time e.0)) set_order))
-    (λ e. FailsFirst (token_tests (set_call token e.1 time e.0)) set_order)
-
--- contents that `decode` accepts with the key that a JSON Web Key stands for (RFC 7518 section 6)
-abbrev pub PassesByJwk : List ℕ → ℕ → Options → Jwk → Contents → Type 0
-PassesByJwk token time options jwk t = (key : Key) × IsKeyOf jwk.algorithm key
-    × Passes (token_tests (key_call token key time options)) decode_order t
-
--- the kind with which a JSON Web Key that stands for no key is refused; else that of the first test
--- that fails with its key
-abbrev pub FailsByJwk : List ℕ → ℕ → Options → Jwk → Kind → Type 0
-FailsByJwk token time options jwk k =
-    ((k ≡ refusal_of jwk.algorithm) × ((key : Key) → ¬ IsKeyOf jwk.algorithm key))
-    ⊎ ((key : Key) × IsKeyOf jwk.algorithm key
-    × FailsFirst (token_tests (key_call token key time options)) decode_order k)
-
--- `decode` with a JSON Web Key; the options' text is read before that of the key, and the key before
--- the token
-abbrev pub AnswersKey : List ℕ → List ℕ → List ℕ → ℕ → Answer → Type 0
-AnswersKey text token key time = AnswersBy {E = Options × Jwk}
-    (λ e. ReadsText ReadsOptions text e.0 × ReadsText ReadsKey key e.1)
-    (IsErrorOfTwo input.Options (ReadsText ReadsOptions text) input.Key (ReadsText ReadsKey key))
-    (λ e. IsClaimsText (PassesByJwk token time e.0 e.1))
-    (λ e. FailsByJwk token time e.0 e.1)
 
 -- accepted contents are those that the verdict vouches for; a refusal has the kind of the first
 -- test of `decode` that fails

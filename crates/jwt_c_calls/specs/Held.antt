@@ -1,57 +1,106 @@
--- The verifier that a handle holds, and what the calls with it leave.
-use Rattle.std.specs.Prelude.{◌≡◌, ◌⊎◌, ⊤, ◌≤◌, ◌<◌, ℕ, List, length, Option, None, Result, Ok, MatchOption, MatchResult}
-use Rattle.std.specs.Arc.{arc_value}
+-- What the calls with handles leave: in the handles, and in numbers and buffers.
+use Rattle.std.specs.Prelude.{◌≡◌, ◌⊎◌, ⊤, ◌≤◌, ◌<◌, ℕ, List, length, Option, Some, None, Result, Ok, Err, MatchOption}
+use Rattle.std.specs.Prelude.{MatchResult, IsSome}
 use Rattle.jwt_base.specs.Kind as kind
 use Rattle.jwt_base.specs.declared.algorithms.AlgorithmFamily.{AlgorithmFamily}
-use Rattle.jwt_validation.specs.Options.{Options}
-use Rattle.jwt_validation.specs.OptionsOf.{options_of}
-use Rattle.jsonwebtoken.specs.Family.{AreOfOneFamily}
-use Rattle.jwt_verifier.specs.declared.keys.Keys.{Keys}
+use Rattle.jwt_keys.specs.declared.jwk.Jwk.{Jwk}
+use Rattle.jwt_params.specs.declared.thumbprints.ThumbprintHash.{ThumbprintHash}
 use Rattle.jwt_verifier.specs.declared.limits.Limits.{Limits}
 use Rattle.jwt_verifier.specs.declared.verifier.Verifier.{Verifier}
-use Rattle.jwt_c_calls.specs.Calls.{Answer, Leaves}
-use Rattle.jwt_c_calls.specs.Status.{number, no_verifier, has_verifier, token_too_long, IsKept}
-use Rattle.jwt_c_calls.specs.Verifiers.{AnswersUntil, IsFamilyFor, IsUnmade, IsVerifierOf, TellsTestOf}
-use Rattle.jwt_c_calls.specs.declared.shared.Shared.{Shared}
+use Rattle.jwt_c_calls.specs.Calls.{Answer, Returns, Leaves}
+use Rattle.jwt_c_calls.specs.Contents.{keys_in, verifier_in, IsSame}
+use Rattle.jwt_c_calls.specs.KeyForms.{AnswersHashed}
+use Rattle.jwt_c_calls.specs.KeyInfos.{info_at, key_at}
+use Rattle.jwt_c_calls.specs.KeyLists.{KeyList, kept_len, with_more}
+use Rattle.jwt_c_calls.specs.KeySources.{AreKeysOf, AreRefused}
+use Rattle.jwt_c_calls.specs.Status.{number, handle_in_use, no_keys, no_verifier, token_too_long, unknown_number, IsKept}
+use Rattle.jwt_c_calls.specs.Verifiers.{AnswersUntil, IsFamilyFor, IsRefusedWith, IsUnmade, IsVerifierOf, TellsTestOf}
+use Rattle.jwt_c_calls.specs.declared.content.Content.{Content}
+use Rattle.jwt_c_calls.specs.declared.held_keys.KeyInfo.{KeyInfo}
+use Rattle.jwt_c_calls.specs.declared.key_sources.Source.{Source}
 
-abbrev pub verifier_in : Shared → Verifier
-verifier_in s = arc_value s.verifier
+-- ---- keys
+
+-- the keys that the bytes are stand after those that the handle had
+abbrev pub AddsTo : Source → List ℕ → Option Content → Option Content → ℕ → ℕ → Type 0
+AddsTo source bytes before after items kept = (verifier_in before ≡ None)
+    × ((more : KeyList) × AreKeysOf source bytes more × (keys_in after ≡ Some (with_more (keys_in before) more))
+    × (items ≡ length more.items) × (kept ≡ kept_len more.items))
+
+-- why none are added: the handle holds a verifier; or the bytes are refused
+abbrev pub IsNotAdded : Source → List ℕ → Option Content → ℕ → Type 0
+IsNotAdded source bytes before status = ((status ≡ no_keys) × IsSome (verifier_in before))
+    ⊎ ((verifier_in before ≡ None) × AreRefused source bytes status)
+
+-- a call that adds keys, or leaves the handle as it was
+abbrev pub LeavesAdded : Option Source → List ℕ → Option Content → Option Content → ℕ → ℕ → ℕ → Type 0
+LeavesAdded None bytes before after items kept status =
+    (status ≡ unknown_number) × (items ≡ 0) × (kept ≡ 0) × IsSame before after
+LeavesAdded (Some source) bytes before after items kept status =
+    ((status ≡ 0) × AddsTo source bytes before after items kept)
+    ⊎ (IsNotAdded source bytes before status × (items ≡ 0) × (kept ≡ 0) × IsSame before after)
+
+-- what the item at a place of a handle can do, or the status for which there is none
+abbrev pub info_held : Option KeyList → ℕ → Result KeyInfo ℕ
+info_held None at = Err no_keys
+info_held (Some keys) at = info_at keys at
+
+abbrev pub no_info : KeyInfo
+no_info = record { status = 0; verifies = 0; signs = 0 }
+
+abbrev pub LeavesInfo : Result KeyInfo ℕ → KeyInfo → ℕ → Type 0
+LeavesInfo (Ok found) info status = (status ≡ 0) × (info ≡ found)
+LeavesInfo (Err why) info status = (status ≡ why) × (info ≡ no_info)
+
+-- the key of the item at a place of a handle, or the status for which there is none
+abbrev pub key_held : Option KeyList → ℕ → Result Jwk ℕ
+key_held None at = Err no_keys
+key_held (Some keys) at = key_at keys.items at
+
+-- the key's answer in the buffer, or nothing
+abbrev pub LeavesKey : (Jwk → Answer → Type 0) → Result Jwk ℕ → ℕ → ℕ → List ℕ → List ℕ → Type 0
+LeavesKey Answers (Ok key) status len before after =
+    (a : Answer) × Answers key a × Leaves a status len before after
+LeavesKey Answers (Err why) status len before after = IsKept why status len before after
+
+-- the thumbprint of a key; a number of no hash is refused first
+abbrev pub LeavesThumbprint : Option ThumbprintHash → Result Jwk ℕ → ℕ → ℕ → List ℕ → List ℕ → Type 0
+LeavesThumbprint None key = IsKept (number kind.InvalidAlgorithmName)
+LeavesThumbprint (Some hash) key = LeavesKey (AnswersHashed hash) key
 
 -- ---- making and sharing
 
--- The content of a handle, before and after: a verifier of these options and keys, or the status of the
--- reason for which there is none. A handle that holds one already is unchanged.
-abbrev pub LeavesMade : (Answer → Type 0) → (Options → Keys → Type 0) → Limits
-    → Option Shared → Option Shared → ℕ → Type 0
-LeavesMade Refused AreOf limits before after status = MatchOption before
-    (MatchOption after (IsUnmade Refused AreOf limits.allows_blank status)
-    (λ s. (status ≡ 0) × IsVerifierOf AreOf limits (verifier_in s)))
-    (λ _. (status ≡ has_verifier) × (after ≡ before))
+-- the verifier is of the keys of a handle and the options of a text
+abbrev pub IsMadeOf : Option KeyList → List ℕ → Limits → Verifier → Type 0
+IsMadeOf None options limits v = ⊥
+IsMadeOf (Some held) options limits v = IsVerifierOf held options limits v
 
--- The content of another handle, before and after: the verifier that the first holds, unless memory ran
--- out. If the first holds none, neither does the other.
-abbrev pub LeavesShared : Option Shared → Option Shared → Option Shared → ℕ → Type 0
+-- the status says why there is none
+abbrev pub IsUnmadeOf : Option KeyList → List ℕ → ℕ → Type 0
+IsUnmadeOf None options status = status ≡ no_keys
+IsUnmadeOf (Some held) options status = IsUnmade held options status
+
+-- The content of a handle, before and after: a verifier of these keys and options, or the status of the reason for which
+-- there is none. A handle that holds something is unchanged.
+abbrev pub LeavesMade : Option KeyList → List ℕ → Limits → Option Content → Option Content → ℕ → Type 0
+LeavesMade held options limits before after status = MatchOption before
+    (MatchOption after (IsUnmadeOf held options status)
+    (λ c. (status ≡ 0) × ((v : Verifier) × (verifier_in (Some c) ≡ Some v) × IsMadeOf held options limits v)))
+    (λ _. (status ≡ handle_in_use) × (after ≡ before))
+
+-- The content of another handle, before and after: the same as the first holds, unless memory ran out. If the first holds
+-- nothing, neither does the other.
+abbrev pub LeavesShared : Option Content → Option Content → Option Content → ℕ → Type 0
 LeavesShared held before after status = MatchOption before
     (MatchOption held ((status ≡ no_verifier) × (after ≡ None))
-    (λ s. MatchOption after (status ≡ number kind.OutOfMemory)
-    (λ t. (status ≡ 0) × (verifier_in t ≡ verifier_in s))))
-    (λ _. (status ≡ has_verifier) × (after ≡ before))
+    (λ c. MatchOption after (status ≡ number kind.OutOfMemory) (λ d. (status ≡ 0) × IsSame (Some c) (Some d))))
+    (λ _. (status ≡ handle_in_use) × (after ≡ before))
 
 -- ---- verifying
 
--- the handle holds a verifier of these options and keys, which takes tokens of this length
-abbrev pub FitsVerifier : Option Shared → (Options → Keys → Type 0) → ℕ → Type 0
-FitsVerifier held AreOf len = MatchOption held ⊥
-    (λ s. AreOf (options_of (verifier_in s).validation) (verifier_in s).keys.keys
-    × (len ≤ (verifier_in s).limits.max_len))
-
--- the algorithms of the verifier that the handle holds are of one family
-abbrev pub HasOneFamily : Option Shared → Type 0
-HasOneFamily held = MatchOption held ⊤ (λ s. AreOfOneFamily (verifier_in s).validation.algorithms.items)
-
 -- the family whose algorithms count for a token, by the verifier that the handle holds
-abbrev pub IsFamilyIn : Option Shared → List ℕ → Option AlgorithmFamily → Type 0
-IsFamilyIn held token f = MatchOption held ⊤ (λ s. IsFamilyFor (verifier_in s) token f)
+abbrev pub IsFamilyIn : Option Content → List ℕ → Option AlgorithmFamily → Type 0
+IsFamilyIn held token f = MatchOption (verifier_in held) ⊤ (λ v. IsFamilyFor v token f)
 
 -- the result of a verifier, with the last time at which the token is accepted, or 0 if it is not, and the
 -- number of the first failed test, or 0 if none failed
@@ -64,17 +113,28 @@ LeavesBy f v token time last test status len before after =
     × TellsTestOf f v.keys.keys v.validation token time a test × Leaves a status len before after))
 
 -- the result of the verifier that a handle holds
-abbrev pub LeavesUntil : Option AlgorithmFamily → Option Shared → List ℕ → ℕ → ℕ → ℕ → ℕ → ℕ → List ℕ → List ℕ → Type 0
-LeavesUntil f held token time last test status len before after = MatchOption held
+abbrev pub LeavesUntil : Option AlgorithmFamily → Option Content → List ℕ → ℕ → ℕ → ℕ → ℕ → ℕ → List ℕ → List ℕ → Type 0
+LeavesUntil f held token time last test status len before after = MatchOption (verifier_in held)
     ((last ≡ 0) × (test ≡ 0) × IsKept no_verifier status len before after)
-    (λ s. LeavesBy f (verifier_in s) token time last test status len before after)
+    (λ v. LeavesBy f v token time last test status len before after)
 
 -- ---- for private clauses
 
 -- the verifier that was made is held, unless memory ran out
-abbrev pub IsHeldAs : Result Verifier ℕ → Option Shared → Option Shared → ℕ → Type 0
+abbrev pub IsHeldAs : Result Verifier ℕ → Option Content → Option Content → ℕ → Type 0
 IsHeldAs made before after status = MatchOption before
     (MatchOption after
     (MatchResult made (λ _. status ≡ number kind.OutOfMemory) (λ why. status ≡ why))
-    (λ s. (status ≡ 0) × (made ≡ Ok (verifier_in s))))
-    (λ _. (status ≡ has_verifier) × (after ≡ before))
+    (λ c. (status ≡ 0) × MatchResult made (λ v. verifier_in (Some c) ≡ Some v) (λ _. ⊥)))
+    (λ _. (status ≡ handle_in_use) × (after ≡ before))
+
+-- the claims of a token that the held verifier accepts
+abbrev pub AnswersIn : Option AlgorithmFamily → Option Content → List ℕ → ℕ → ℕ → List ℕ → Type 0
+AnswersIn f held token time last text = MatchOption (verifier_in held) ⊥
+    (λ v. (length token ≤ v.limits.max_len)
+    × AnswersUntil f v.keys.keys v.validation token time last (Returns text))
+
+-- the status of a token that is refused, and the number of the test
+abbrev pub IsRefusedIn : Option AlgorithmFamily → Option Content → List ℕ → ℕ → ℕ → ℕ → Type 0
+IsRefusedIn f held token time status test = MatchOption (verifier_in held)
+    ((status ≡ no_verifier) × (test ≡ 0)) (λ v. IsRefusedWith f v token time status test)

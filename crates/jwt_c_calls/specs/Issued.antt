@@ -1,26 +1,20 @@
--- The results of the calls for C that issue tokens and thumbprints.
-use Rattle.std.specs.Prelude.{◌≡◌, ◌≢◌, ◌⊎◌, ◌==◌, ℕ, List, Option, Some, None, Result, Ok, Err, if◌then◌else◌}
+-- The results of the calls for C that issue tokens.
+use Rattle.std.specs.Prelude.{◌≡◌, ◌≢◌, ◌⊎◌, ℕ, List, Some}
 use Rattle.serde_json.specs.Data.{Data}
-use Rattle.jwt_base.specs.Base64Url.{IsPart}
 use Rattle.jwt_base.specs.JsonText.{ReadsText}
 use Rattle.jwt_base.specs.Kind.{Kind}
 use Rattle.jwt_base.specs.Kind as kind
 use Rattle.jwt_base.specs.declared.algorithms.AlgorithmFamily.TheVariants.{Hmac}
 use Rattle.jwt_header.specs.Header.{ReadsHeader}
 use Rattle.jwt_header.specs.declared.header.Header.{Header}
-use Rattle.jwt_crypto.specs.Hmac.{hash_bytes}
-use Rattle.jwt_crypto.specs.HmacKeys.{hash_named}
 use Rattle.jwt_keys.specs.Jwk.{ReadsKey}
 use Rattle.jwt_keys.specs.Key.{Key, Plain, key_family}
 use Rattle.jwt_keys.specs.KeyOfJwk.{IsKeyOf}
-use Rattle.jwt_keys.specs.Thumbprint.{digested, thumb_text}
 use Rattle.jwt_keys.specs.declared.jwk.Jwk.{Jwk}
-use Rattle.jwt_params.specs.declared.thumbprints.ThumbprintHash.{ThumbprintHash}
-use Rattle.jwt_params.specs.declared.thumbprints.ThumbprintHash.TheVariants.{SHA256, SHA384, SHA512}
 use Rattle.jsonwebtoken.specs.ByHmac.{encoding_by_hmac}
 use Rattle.jsonwebtoken.specs.Order.{Passes, FailsFirst}
 use Rattle.jsonwebtoken.specs.Issue.{Issue, IsIssued, Written, encode_order, issue_tests}
-use Rattle.jwt_c_calls.specs.Calls.{Answer, AnswersBy, Refuses, IsErrorOfOne, IsErrorOfTwo}
+use Rattle.jwt_c_calls.specs.Calls.{Answer, AnswersBy, IsErrorOfOne, IsErrorOfTwo}
 use Rattle.jwt_c_calls.specs.Inputs.{ReadsClaimsText}
 use Rattle.jwt_c_calls.specs.Keys.{StandsForNoKey}
 use Rattle.jwt_c_calls.specs.declared.inputs.Input.{Input}
@@ -81,31 +75,6 @@ AnswersEncodeKey header claims key = AnswersBy {E = (Header × Data) × Jwk}
     (λ e. (ReadsText ReadsHeader header e.0.0 × ReadsClaimsText claims e.0.1) × ReadsText ReadsKey key e.1)
     (IsErrorOfAny header claims key)
     (λ e. IsTokenByJwk e.1 e.0.0 e.0.1) (λ e. IsNotIssuedByJwk e.1 e.0.0 e.0.1)
-
--- ---- thumbprints
-
--- the hash of this many bits (RFC 7638 section 3.4)
-abbrev pub hash_numbered : ℕ → Option ThumbprintHash
-hash_numbered n = if n == 256 then Some SHA256
-    else (if n == 384 then Some SHA384
-    else (if n == 512 then Some SHA512
-    else None))
-
--- the thumbprint of a key, as bytes, or the kind of its refusal (RFC 7638 section 3)
-abbrev pub thumbprint_of : ThumbprintHash → Jwk → Result (List ℕ) Kind
-thumbprint_of hash key = digested (λ text. Ok (hash_bytes (hash_named hash) text)) (thumb_text key)
-
--- the base64url text of the thumbprint, or the kind of the refusal
-abbrev pub AnswersHashed : ThumbprintHash → List ℕ → Answer → Type 0
-AnswersHashed hash text = AnswersBy
-    (ReadsText ReadsKey text) (IsErrorOfOne input.Key (ReadsText ReadsKey text))
-    (λ key part. (bytes : List ℕ) × (thumbprint_of hash key ≡ Ok bytes) × IsPart part bytes)
-    (λ key k. thumbprint_of hash key ≡ Err k)
-
--- a number of no hash is refused, before the key is read
-abbrev pub AnswersThumbprint : Option ThumbprintHash → List ℕ → Answer → Type 0
-AnswersThumbprint None text a = a ≡ Refuses kind.InvalidAlgorithmName
-AnswersThumbprint (Some hash) text a = AnswersHashed hash text a
 
 -- for a private clause: the result for a header and claims that were read
 abbrev pub AnswersEncodeText : (key : List ℕ) → Header → Data → Answer → Type 0

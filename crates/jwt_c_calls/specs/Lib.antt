@@ -1,8 +1,12 @@
 pub mod Status
 pub mod Inputs
 pub mod Calls
-pub mod KeyFiles
 pub mod Keys
+pub mod KeyForms
+pub mod KeyInfos
+pub mod KeyLists
+pub mod KeySources
+pub mod Contents
 pub mod Members
 pub mod Membership
 pub mod Options
@@ -11,7 +15,6 @@ pub mod ClaimRules
 pub mod Issued
 pub use Rattle.jwt_base.specs.Kind
 pub mod Secrets
-pub mod Serving
 pub mod Signatures
 pub mod TestNumbers
 pub mod Texts

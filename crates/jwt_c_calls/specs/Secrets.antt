@@ -1,12 +1,11 @@
--- The results of the calls for C that tell by which secrets and keys anyone can sign.
+-- The result of a check whether anyone can sign for a key.
 use Rattle.std.specs.Prelude.{◌≡◌, ◌⊎◌, ℕ, List}
 use Rattle.jwt_base.specs.JsonText.{ReadsText}
 use Rattle.jwt_base.specs.Kind as kind
 use Rattle.jwt_keys.specs.Jwk.{ReadsKey}
-use Rattle.jwt_keys.specs.JwkSet.{ReadsSet}
 use Rattle.jwt_keys.specs.declared.jwk.Jwk.{Jwk}
-use Rattle.jwt_secrets.specs.Blank.{IsBlank, IsBlankJwk, HasBlankKey}
-use Rattle.jwt_secrets.specs.KeyTexts.{IsKeyText, JwkHasKeyText, SetHasKeyText}
+use Rattle.jwt_secrets.specs.Blank.{IsBlankJwk}
+use Rattle.jwt_secrets.specs.KeyTexts.{JwkHasKeyText}
 use Rattle.jwt_c_calls.specs.Calls.{HasNoReading}
 use Rattle.jwt_c_calls.specs.Status.{number, all_zero_secret, key_as_secret, input_status}
 use Rattle.jwt_c_calls.specs.declared.inputs.Input.{Input}
@@ -18,14 +17,8 @@ SaysWhether Blank KeyText status = (Blank × (status ≡ all_zero_secret))
     ⊎ (((¬ Blank) × KeyText × (status ≡ key_as_secret))
     ⊎ ((¬ Blank) × (¬ KeyText) × (status ≡ 0)))
 
-abbrev pub SaysOfSecret : List ℕ → ℕ → Type 0
-SaysOfSecret secret = SaysWhether (IsBlank secret) (IsKeyText secret)
-
 abbrev pub SaysOfJwk : Jwk → ℕ → Type 0
 SaysOfJwk jwk = SaysWhether (IsBlankJwk jwk) (JwkHasKeyText jwk)
-
-abbrev pub SaysOfSet : List Jwk → ℕ → Type 0
-SaysOfSet keys = SaysWhether (HasBlankKey keys) (SetHasKeyText keys)
 
 -- the status says it of the value that is read from the text; or the text is at fault, or memory ran out
 abbrev pub ChecksText : {X : Type 0} → Input → (X → Type 0) → (X → ℕ → Type 0) → ℕ → Type 0
@@ -33,14 +26,6 @@ ChecksText input Reads Says status = (status ≡ number kind.OutOfMemory)
     ⊎ (((status ≡ input_status input) × HasNoReading Reads)
     ⊎ ((x : _) × Reads x × Says x status))
 
--- of a secret (RFC 2104 section 2, RFC 8725 section 3.1); or memory ran out, which it never does for a secret of zeros alone
-abbrev pub ChecksSecret : List ℕ → ℕ → Type 0
-ChecksSecret secret status = SaysOfSecret secret status ⊎ ((¬ IsBlank secret) × (status ≡ number kind.OutOfMemory))
-
 -- of a JSON Web Key (RFC 7517 section 4)
 abbrev pub ChecksKey : List ℕ → ℕ → Type 0
 ChecksKey key = ChecksText input.Key (ReadsText ReadsKey key) SaysOfJwk
-
--- of a set of them: of each of its keys (RFC 7517 section 5)
-abbrev pub ChecksSet : List ℕ → ℕ → Type 0
-ChecksSet set = ChecksText input.Set (ReadsText ReadsSet set) SaysOfSet

@@ -70,7 +70,6 @@ unknown_number = 102
 -- a text does not describe the value that it must
 abbrev pub input_status : Input → ℕ
 input_status input.Options = 101
-input_status input.Set = 103
 input_status input.Header = 104
 input_status input.Claims = 105
 input_status input.Key = 106
@@ -79,12 +78,15 @@ input_status input.Key = 106
 abbrev pub all_zero_secret : ℕ
 all_zero_secret = 107
 
--- a handle holds no verifier, or holds one already
+-- a handle holds no verifier, no keys, or already holds something
 abbrev pub no_verifier : ℕ
 no_verifier = 108
 
-abbrev pub has_verifier : ℕ
-has_verifier = 109
+abbrev pub no_keys : ℕ
+no_keys = 117
+
+abbrev pub handle_in_use : ℕ
+handle_in_use = 109
 
 -- no key verifies with any of the algorithms of the options, or none with a `kid`
 abbrev pub no_usable_key : ℕ
@@ -101,6 +103,18 @@ no_member = 112
 -- a secret is the text of a key of another kind
 abbrev pub key_as_secret : ℕ
 key_as_secret = 113
+
+-- a key is for another use than signatures
+abbrev pub not_for_signatures : ℕ
+not_for_signatures = 115
+
+-- a text is a certificate
+abbrev pub is_certificate : ℕ
+is_certificate = 116
+
+-- no algorithm is verified with a key
+abbrev pub unfit_key : ℕ
+unfit_key = 118
 
 -- The text of a status is that of its kind, without the colon that announces what no status tells: a message, or the
 -- claim of another name than the five. In C a provider's kind is that of a private key alone.
@@ -135,17 +149,20 @@ statuses = (0, codes "OK")
     ∷ (buffer_too_small, codes "Buffer too small")
     ∷ (input_status input.Options, codes "Invalid options")
     ∷ (unknown_number, codes "Unknown number")
-    ∷ (input_status input.Set, codes "Invalid key set")
     ∷ (input_status input.Header, codes "Invalid header")
     ∷ (input_status input.Claims, codes "Invalid claims")
     ∷ (input_status input.Key, codes "Invalid key")
     ∷ (all_zero_secret, codes "Secret is empty or all zeros")
     ∷ (no_verifier, codes "No verifier")
-    ∷ (has_verifier, codes "Verifier already made")
+    ∷ (handle_in_use, codes "Handle already in use")
     ∷ (no_usable_key, codes "No key fits the algorithms")
     ∷ (token_too_long, codes "Token too long")
     ∷ (no_member, codes "No such member")
     ∷ (key_as_secret, codes "Secret is the text of a key")
+    ∷ (not_for_signatures, codes "Key is not for signatures")
+    ∷ (is_certificate, codes "Certificate, and not a key")
+    ∷ (no_keys, codes "No keys")
+    ∷ (unfit_key, codes "Key fits no algorithm")
     ∷ []
 
 -- the text of a number in a table

@@ -1,6 +1,7 @@
 -- The results of the calls for C that make a verifier, and of those that verify with one.
-use Rattle.std.specs.Prelude.{◌≡◌, ◌⊎◌, ◌↔◌, ◌≤◌, ◌<◌, ◌==◌, ℕ, List, length, Bool, Result, Ok, Err, IsTrue}
-use Rattle.std.specs.Prelude.{if◌then◌else◌, None, Option}
+use Rattle.std.specs.Prelude.{◌≡◌, ◌⊎◌, ◌↔◌, ◌≤◌, ◌<◌, ◌==◌, ℕ, List, length, true, None, Option, Contains}
+use Rattle.std.specs.Prelude.{if◌then◌else◌, MatchOption}
+use Rattle.std.specs.List.{Any}
 use Rattle.serde_json.specs.declared.value.Value.{Value}
 use Rattle.jwt_base.specs.Claims.{IsValue}
 use Rattle.jwt_base.specs.JsonText.{ReadsText}
@@ -8,13 +9,10 @@ use Rattle.jwt_base.specs.Kind.{Kind}
 use Rattle.jwt_base.specs.Kind as kind
 use Rattle.jwt_base.specs.declared.algorithms.Algorithm.{Algorithm}
 use Rattle.jwt_base.specs.declared.algorithms.AlgorithmFamily.{AlgorithmFamily}
-use Rattle.jwt_base.specs.declared.algorithms.AlgorithmFamily.TheVariants.{Hmac}
-use Rattle.jwt_keys.specs.Jwk.{ReadsKey}
-use Rattle.jwt_keys.specs.JwkSet.{ReadsSet}
-use Rattle.jwt_keys.specs.Key.{Plain}
+use Rattle.jwt_keys.specs.Key.{Key}
 use Rattle.jwt_keys.specs.KeyOfJwk.{IsKeyOf}
 use Rattle.jwt_keys.specs.declared.jwk.Jwk.{Jwk}
-use Rattle.jwt_secrets.specs.KeyTexts.{HasKeyText, SetHasKeyText}
+use Rattle.jwt_key_items.specs.KeyItems.{kept_of}
 use Rattle.jwt_standard.specs.StandardKeys.{verifier_refusal, StandardAccepts}
 use Rattle.jwt_validation.specs.Moments.{end_of_time}
 use Rattle.jwt_validation.specs.Options.{Options}
@@ -22,11 +20,11 @@ use Rattle.jwt_validation.specs.OptionsOf.{options_of}
 use Rattle.jwt_c_calls.specs.Inputs.{ReadsOptions}
 use Rattle.jwt_validation.specs.declared.validation.Validation.{Validation}
 use Rattle.jsonwebtoken.specs.Family.{AreOfOneFamily, family_by, with_family}
-use Rattle.jsonwebtoken.specs.Own.{HasHeaderOf}
+use Rattle.jsonwebtoken.specs.Own.{HasHeaderOf, with_algorithms}
 use Rattle.jsonwebtoken.specs.Order.{Passes, FailsFirst, IsFirstFailed}
-use Rattle.jsonwebtoken.specs.Tests.{Call, Compact, Contents, token_tests, verifying_call}
+use Rattle.jsonwebtoken.specs.Tests.{AgreesWith, Call, Compact, Contents, token_tests, verifying_call}
 use Rattle.jsonwebtoken.specs.declared.refusal.Test.{Test}
-use Rattle.jwt_verifier.specs.Fitness.{token_limit, prepared_limit, AreFit, IsKeyProblem}
+use Rattle.jwt_verifier.specs.Fitness.{token_limit, prepared_limit, JwkServes, ServesAs}
 use Rattle.jwt_verifier.specs.Verifying.{source_of, order_of}
 use Rattle.jwt_verifier.specs.declared.fitness.KeyProblem.{KeyProblem}
 use Rattle.jwt_verifier.specs.declared.fitness.KeyProblem.TheVariants.{AllZero, NoUsableKey, Memory}
@@ -34,10 +32,11 @@ use Rattle.jwt_verifier.specs.declared.keys.Keys.{Keys}
 use Rattle.jwt_verifier.specs.declared.keys.Keys.TheVariants.{One, Set}
 use Rattle.jwt_verifier.specs.declared.limits.Limits.{Limits}
 use Rattle.jwt_verifier.specs.declared.verifier.Verifier.{Verifier}
-use Rattle.jwt_c_calls.specs.Calls.{Answer, Returns, Refuses, InputError, AnswersBy, IsClaimsText, status_of}
-use Rattle.jwt_c_calls.specs.Status.{number, all_zero_secret, key_as_secret, no_usable_key}
-use Rattle.jwt_c_calls.specs.Status.{token_too_long}
+use Rattle.jwt_c_calls.specs.Calls.{Answer, Returns, Refuses, InputError, AnswersBy, HasNoReading, IsClaimsText}
+use Rattle.jwt_c_calls.specs.KeyLists.{KeyList, lone_key}
+use Rattle.jwt_c_calls.specs.Status.{number, all_zero_secret, input_status, no_usable_key, token_too_long}
 use Rattle.jwt_c_calls.specs.TestNumbers.{test_number}
+use Rattle.jwt_c_calls.specs.declared.inputs.Input.TheVariants as input
 
 -- ---- making a verifier
 
@@ -45,82 +44,78 @@ use Rattle.jwt_c_calls.specs.TestNumbers.{test_number}
 abbrev pub unless_zero : ℕ → ℕ → ℕ
 unless_zero given usual = if given == 0 then usual else given
 
--- the limits for the arguments of a call: 0 selects 1 MiB for the length of a token, and 64 MiB for the bytes of prepared
--- keys
-abbrev pub limits_of : ℕ → Bool → ℕ → Limits
-limits_of max_len allows_blank max_prepared = record {
+-- The limits for the arguments of a call: 0 selects 1 MiB for the length of a token, and 64 MiB for the bytes of prepared
+-- keys. Nothing is left to refuse of secrets: a handle keeps none with which anyone can sign.
+abbrev pub limits_of : ℕ → ℕ → Limits
+limits_of max_len max_prepared = record {
   max_len = unless_zero max_len token_limit;
-  allows_blank = allows_blank;
+  allows_blank = true;
   max_prepared = unless_zero max_prepared prepared_limit;
 }
 
--- the text of a set describes these keys (RFC 7517 section 5)
-abbrev pub IsSetText : List ℕ → Keys → Type 0
-IsSetText text (One key) = ⊥
-IsSetText text (Set set) = ReadsText ReadsSet text set.keys.items
+-- the keys are the set of these
+abbrev pub HasSet : List Jwk → Keys → Type 0
+HasSet kept (One key) = ⊥
+HasSet kept (Set set) = set.keys.items ≡ kept
 
--- the text of a JSON Web Key describes one that stands for this key (RFC 7517 section 4, RFC 7518
--- section 6)
-abbrev pub IsKeyText : List ℕ → Keys → Type 0
-IsKeyText text (One key) = (jwk : Jwk) × ReadsText ReadsKey text jwk × IsKeyOf jwk.algorithm key
-IsKeyText text (Set set) = ⊥
+-- the keys are the one that this JSON Web Key stands for (RFC 7518 section 6)
+abbrev pub IsOfKey : Jwk → Keys → Type 0
+IsOfKey jwk (One key) = IsKeyOf jwk.algorithm key
+IsOfKey jwk (Set set) = ⊥
 
--- the key is the secret, for HMAC
-abbrev pub IsSecret : List ℕ → Keys → Type 0
-IsSecret secret (One key) = key ≡ Plain Hmac secret
-IsSecret secret (Set set) = ⊥
+-- the second list has the algorithms of the first that agree with the key's `alg` (RFC 7517 section 4.4)
+abbrev pub HasAgreeing : Jwk → List Algorithm → List Algorithm → Type 0
+HasAgreeing jwk algorithms left =
+    (a : Algorithm) → Contains left a ↔ (Contains algorithms a × AgreesWith a jwk)
 
--- the options and the keys that texts describe
-abbrev pub AreOfSet : List ℕ → List ℕ → Options → Keys → Type 0
-AreOfSet options set o keys = ReadsText ReadsOptions options o × IsSetText set keys
+-- the options with these algorithms
+abbrev pub AreAgreeing : Jwk → Options → Options → Type 0
+AreAgreeing jwk given used = (used ≡ with_algorithms given used.algorithms)
+    × HasAgreeing jwk given.algorithms used.algorithms
 
-abbrev pub AreOfKey : List ℕ → List ℕ → Options → Keys → Type 0
-AreOfKey options key o keys = ReadsText ReadsOptions options o × IsKeyText key keys
+-- The keys and options of a verifier, by the keys of a handle and the options that are given: one key that is not in a set,
+-- for the algorithms that agree with it; or the set of the kept keys.
+abbrev pub AreFor : KeyList → Options → Keys → Options → Type 0
+AreFor held given keys used = MatchOption (lone_key held)
+    (HasSet (kept_of held.items) keys × (used ≡ given))
+    (λ jwk. IsOfKey jwk keys × AreAgreeing jwk given used)
 
-abbrev pub AreOfSecret : List ℕ → List ℕ → Options → Keys → Type 0
-AreOfSecret options secret o keys = ReadsText ReadsOptions options o × IsSecret secret keys
+-- a listed algorithm that agrees with the key's `alg` is verified with the key
+abbrev pub KeyServes : List Algorithm → Jwk → Type 0
+KeyServes algorithms jwk = (key : Key) × IsKeyOf jwk.algorithm key × ServesAs algorithms jwk key
 
--- the secret, or one of the set, is the text of a key of another kind (RFC 8725 section 3.1)
-abbrev pub HaveKeyText : Keys → Type 0
-HaveKeyText (One key) = HasKeyText key
-HaveKeyText (Set set) = SetHasKeyText set.keys.items
+-- so it is with one of these keys that has a `kid`
+abbrev pub SetServes : List Algorithm → List Jwk → Type 0
+SetServes algorithms kept = Any (JwkServes algorithms) kept
 
--- none is, or that is allowed
-abbrev pub HaveNoKeyText : Bool → Keys → Type 0
-HaveNoKeyText allows_blank keys = IsTrue allows_blank ⊎ (¬ HaveKeyText keys)
+-- a verifier of these keys accepts some token
+abbrev pub AreUsable : KeyList → List Algorithm → Type 0
+AreUsable held algorithms =
+    MatchOption (lone_key held) (SetServes algorithms (kept_of held.items)) (KeyServes algorithms)
 
--- the status of keys of which no verifier is made
+-- the verifier has the keys of the handle and the options of the text, and prepares no more keys than the limits allow
+abbrev pub IsVerifierOf : KeyList → List ℕ → Limits → Verifier → Type 0
+IsVerifierOf held text limits v = (v.limits ≡ limits) × (v.keys.prepared ≤ limits.max_prepared)
+    × ((given : Options) × ReadsText ReadsOptions text given
+    × AreFor held given v.keys.keys (options_of v.validation) × AreUsable held given.algorithms)
+
+-- the status of keys that are not usable, or memory ran out
+abbrev pub IsUnfit : Type 0 → ℕ → Type 0
+IsUnfit Usable status =
+    (status ≡ number kind.OutOfMemory) ⊎ ((status ≡ no_usable_key) × (¬ Usable))
+
+-- why there is no verifier: memory ran out; or the text is not options; or no key is usable
+abbrev pub IsUnmade : KeyList → List ℕ → ℕ → Type 0
+IsUnmade held text status = (status ≡ number kind.OutOfMemory)
+    ⊎ (((status ≡ input_status input.Options) × HasNoReading (ReadsText ReadsOptions text))
+    ⊎ ((status ≡ no_usable_key) × ((given : Options) × ReadsText ReadsOptions text given
+    × (¬ AreUsable held given.algorithms))))
+
+-- for a private clause: the status of keys of which no verifier is made
 abbrev pub problem_status : KeyProblem → ℕ
 problem_status AllZero = all_zero_secret
 problem_status NoUsableKey = no_usable_key
 problem_status Memory = number kind.OutOfMemory
-
--- Why no verifier is made of the keys: memory ran out; or a secret is the text of a key, which is not allowed; or
--- else they are unfit.
-abbrev pub AreRefused : Bool → List Algorithm → Keys → ℕ → Type 0
-AreRefused allows_blank algorithms keys status = (status ≡ number kind.OutOfMemory)
-    ⊎ (((status ≡ key_as_secret) × (¬ IsTrue allows_blank) × HaveKeyText keys)
-    ⊎ (HaveNoKeyText allows_blank keys
-    × ((why : KeyProblem) × IsKeyProblem allows_blank algorithms keys why × (status ≡ problem_status why))))
-
--- the verifier has options and keys of these texts, and fit ones, and prepares no more of them than the limits allow
-abbrev pub IsVerifierOf : (Options → Keys → Type 0) → Limits → Verifier → Type 0
-IsVerifierOf AreOf limits v = AreOf (options_of v.validation) v.keys.keys × (v.limits ≡ limits)
-    × HaveNoKeyText limits.allows_blank v.keys.keys × AreFit limits.allows_blank v.validation.algorithms.items v.keys.keys
-    × (v.keys.prepared ≤ limits.max_prepared)
-
--- the status says why there is no verifier: the texts are refused; or the keys that they describe are
--- refused for the options
-abbrev pub IsUnmade : (Answer → Type 0) → (Options → Keys → Type 0) → Bool → ℕ → Type 0
-IsUnmade Refused AreOf allows_blank status = ((a : Answer) × Refused a × (status ≡ status_of a))
-    ⊎ ((o : Options) × (keys : Keys) × AreOf o keys
-    × AreRefused allows_blank o.algorithms keys status)
-
--- the verifier, or the status of the reason for which there is none
-abbrev pub IsMade :
-    (Answer → Type 0) → (Options → Keys → Type 0) → Limits → Result Verifier ℕ → Type 0
-IsMade Refused AreOf limits (Ok v) = IsVerifierOf AreOf limits v
-IsMade Refused AreOf limits (Err status) = IsUnmade Refused AreOf limits.allows_blank status
 
 -- ---- verifying with it
 

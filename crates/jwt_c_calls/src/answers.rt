@@ -12,84 +12,20 @@ ghost use Rattle.serde_json.specs.Read.{max_depth};
 ghost use Rattle.serde_json.specs.View.{view};
 ghost use Rattle.serde_json.specs.Written.{has_float};
 ghost use Rattle.jwt_base.specs.Kind as kind;
-ghost use Rattle.jwt_c_calls.specs.Calls.{Returns, Refuses, AnswersHmac, AnswersKey, AnswersSet};
-ghost use Rattle.jwt_c_calls.specs.Calls.{AnswersVerdict, AnswersGivenVerdict};
+ghost use Rattle.jwt_c_calls.specs.Calls.{Returns, Refuses, AnswersVerdict, AnswersGivenVerdict};
 ghost use Rattle.jwt_c_calls.specs.Calls.{AnswersNumbers, AnswersIssuedAt};
 ghost use Rattle.jwt_c_calls.specs.Calls.{HandsOut, IsTextOf, answer_of, answer_in, said_value};
 ghost use Rattle.jwt_c_calls.specs.Status.{algorithm_numbered};
 
 use crate::inputs::{CallError, Input, read_as, read_claims, read_options};
-use crate::keys::{options_and_key, options_and_secret, options_and_set};
 use crate::status::numbered_algorithm;
-use jsonwebtoken::crypto::hmac::HmacProvider;
 use jsonwebtoken::crypto::verdict::VerdictProvider;
 use jsonwebtoken::errors::{Error, ErrorKind, new_error};
-use jsonwebtoken::{TokenData, decode, decode_by_verdict, decode_with_set};
+use jsonwebtoken::{TokenData, decode_by_verdict};
 use jwt_base::json::has_float;
-use jwt_standard::StandardProvider;
-use jwt_validation::Validation;
 use serde_json::Value;
 use std::alloc::Global;
 use std::result::Result;
-
-/// Returns the claims of a token that is verified with HMAC and a secret.
-pub fn hmac_answer(
-    alloc: Global,
-    token: &[u8],
-    secret: &[u8],
-    options: &[u8],
-    time: u64,
-) -> Result<Vec<u8>, CallError>
-    ensures ok { IfOk result (λ b. AnswersHmac options.now token.now secret.now time
-        (Returns b.items)) }
-    ensures err { IfErr result (λ r. AnswersHmac options.now token.now secret.now time
-        (answer_of r)) }
-{
-    let (validation, key) = options_and_secret(alloc, options, secret)?;
-    let answer = decode(alloc, &HmacProvider, token, &key, &validation, time);
-    // one drop
-    drop(key);
-    drop(validation);
-    answer_of_claims(alloc, answer)
-}
-
-/// Returns the claims of a token that is verified with a key, which is the JSON text of one JSON
-/// Web Key (RFC 7517 section 4), by the algorithm of all twelve that the token's header names.
-pub fn key_answer(
-    alloc: Global,
-    token: &[u8],
-    key: &[u8],
-    options: &[u8],
-    time: u64,
-) -> Result<Vec<u8>, CallError>
-    ensures ok { IfOk result (λ b. AnswersKey options.now token.now key.now time (Returns b.items)) }
-    ensures err { IfErr result (λ r. AnswersKey options.now token.now key.now time (answer_of r)) }
-{
-    let (validation, key) = options_and_key(alloc, options, key)?;
-    let answer = decode(alloc, &StandardProvider, token, &key, &validation, time);
-    drop(key);
-    drop(validation);
-    answer_of_claims(alloc, answer)
-}
-
-/// Returns the claims of a token that is verified with the key of the set that its header names, by
-/// the algorithm of all twelve that it names.
-pub fn set_answer(
-    alloc: Global,
-    token: &[u8],
-    set: &[u8],
-    options: &[u8],
-    time: u64,
-) -> Result<Vec<u8>, CallError>
-    ensures ok { IfOk result (λ b. AnswersSet options.now token.now set.now time (Returns b.items)) }
-    ensures err { IfErr result (λ r. AnswersSet options.now token.now set.now time (answer_of r)) }
-{
-    let (validation, keys) = options_and_set(alloc, options, set)?;
-    let answer = decode_with_set(alloc, &StandardProvider, token, &keys, &validation, time);
-    drop(keys);
-    drop(validation);
-    answer_of_claims(alloc, answer)
-}
 
 /// The verdict of a caller on a signature of a message, by the algorithm of this number.
 #[derive(Drop)]

@@ -1,14 +1,14 @@
 //! The JSON texts that are arguments of calls for C, and the reasons for which a call has no
 //! result.
 
-ghost use Rattle.std.specs.Prelude.{◌≡◌, List, [], Some, None, IfOk, IfErr, MatchOption, codes, false};
+ghost use Rattle.std.specs.Prelude.{◌≡◌, ◌↔◌, IsTrue, List, [], Some, None, IfOk, IfErr, MatchOption, codes, false};
 ghost use Rattle.std.specs.Option.{option_map_or};
 ghost use Rattle.serde_json.specs.Data.{Data};
 ghost use Rattle.serde_json.specs.Find.{get};
 ghost use Rattle.serde_json.specs.View.{view};
 ghost use Rattle.jwt_base.specs.JsonText.{ReadsText};
 ghost use Rattle.jwt_base.specs.Kind as kind;
-ghost use Rattle.jwt_base.specs.KindOf.{kind_of, RefusesAs};
+ghost use Rattle.jwt_base.specs.KindOf.{kind_of, IsMemory, RefusesAs};
 ghost use Rattle.jwt_validation.specs.Options.{Options};
 ghost use Rattle.jwt_validation.specs.OptionsOf.{options_of};
 ghost use Rattle.jwt_c_calls.specs.Inputs.{IsReadAs, ReadsClaimsText, ReadsOptions, empty_member};
@@ -26,7 +26,6 @@ use std::result::Result;
 #[derive(Clone, Copy)]
 pub enum Input {
     Options,
-    Set,
     Header,
     Claims,
     Key,
@@ -56,6 +55,16 @@ impl From<AllocError> for CallError {
 
     fn from(refused: AllocError) -> CallError {
         CallError::Token(Error::from(refused))
+    }
+}
+
+/// Returns whether a refusal says that memory ran out.
+pub fn is_memory(refused: &Error) -> bool
+    ensures { IsTrue result ↔ IsMemory refused.now }
+{
+    match refused.kind() {
+        ErrorKind::OutOfMemory => true,
+        _ => false,
     }
 }
 

@@ -1,11 +1,10 @@
-//! The results of the calls for C that issue tokens and thumbprints of keys.
+//! The results of the calls for C that issue tokens.
 
 ghost use Rattle.std.specs.Prelude.{◌≡◌, ◌⊎◌, IfOk, IfErr};
 ghost use Rattle.serde_json.specs.View.{view};
 ghost use Rattle.jwt_base.specs.KindOf.{kind_of, IsMemory};
 ghost use Rattle.jwt_c_calls.specs.Calls.{Returns, answer_of};
 ghost use Rattle.jwt_c_calls.specs.Issued.{AnswersEncode, AnswersEncodeKey, AnswersEncodeText};
-ghost use Rattle.jwt_c_calls.specs.Issued.{AnswersThumbprint, AnswersHashed, hash_numbered};
 ghost use Rattle.jwt_c_calls.specs.Issued.{IsNotIssued, IsNotIssuedBy, IsNotIssuedByJwk};
 ghost use Rattle.jwt_c_calls.specs.Issued.{IsTokenBy, IsTokenByJwk, IsTokenOf};
 
@@ -14,7 +13,6 @@ use jsonwebtoken::crypto::hmac::HmacProvider;
 use jsonwebtoken::errors::{Error, ErrorKind, new_error};
 use jsonwebtoken::{AlgorithmFamily, DecodingKey, EncodingKey, Header, encode};
 use jwt_keys::jwk::Jwk;
-use jwt_params::thumbprints::ThumbprintHash;
 use serde_json::Value;
 use std::alloc::Global;
 use std::result::Result;
@@ -56,29 +54,6 @@ pub fn encode_key_answer(
     drop(claims);
     drop(header);
     token
-}
-
-/// Returns the hash of this many bits.
-pub fn numbered_hash(bits: u32) -> Option<ThumbprintHash>
-    ensures { result ≡ hash_numbered bits }
-{
-    match bits {
-        256 => Some(ThumbprintHash::SHA256),
-        384 => Some(ThumbprintHash::SHA384),
-        512 => Some(ThumbprintHash::SHA512),
-        _ => None,
-    }
-}
-
-/// Returns the thumbprint of a key, by the hash of this many bits.
-pub fn thumbprint_answer(alloc: Global, key: &[u8], bits: u32) -> Result<Vec<u8>, CallError>
-    ensures ok { IfOk result (λ b. AnswersThumbprint (hash_numbered bits) key.now (Returns b.items)) }
-    ensures err { IfErr result (λ r. AnswersThumbprint (hash_numbered bits) key.now (answer_of r)) }
-{
-    match numbered_hash(bits) {
-        Some(hash) => thumbprint_of(alloc, key, hash),
-        None => Err(CallError::Token(new_error(ErrorKind::InvalidAlgorithmName))),
-    }
 }
 
 fn issue(alloc: Global, header: &Header, claims: &Value, secret: &[u8]) -> Result<Vec<u8>, Error>
@@ -136,15 +111,4 @@ fn issue_by_key(
     let secret = key.try_get_as_bytes()?;
     let token = issue(alloc, header, claims, secret)?;
     Ok(token)
-}
-
-fn thumbprint_of(alloc: Global, key: &[u8], hash: ThumbprintHash) -> Result<Vec<u8>, CallError>
-    ensures ok { IfOk result (λ b. AnswersHashed hash key.now (Returns b.items)) }
-    ensures err { IfErr result (λ r. AnswersHashed hash key.now (answer_of r)) }
-{
-    let key = read_as(Input::Key, Jwk::from_slice(alloc, key))?;
-    let text = key.thumbprint(alloc, &HmacProvider, hash);
-    drop(key);
-    let text = text?;
-    Ok(text.into_bytes())
 }

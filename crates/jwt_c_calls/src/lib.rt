@@ -8,32 +8,33 @@
 //! over the texts that C passes. [`status_table`] has the numbers and texts of the statuses, with
 //! which the header, the packages and RULES are compared.
 //!
-//! `set_answer(alloc, token, set, options, time)` reads options and a set, calls `decode_with_set`,
-//! and returns the claims as JSON.
+//! `numbers_answer(alloc, claims)` reads claims, and refuses those with a number that is not an
+//! integer of 64 bits.
 //!
-//! [`verifiers`] makes a `jwt_verifier::Verifier` of the texts of options and keys, or returns the
-//! status of the reason for which there is none. `decode_with_expiry` verifies a token with it, and
-//! returns the claims and the last time at which they are accepted, or the status and the number of
-//! the test that failed. [`test_numbers`] has those numbers, and [`texts`] the text of every number. [`handle`] is the struct of a caller
-//! that holds a verifier, and [`handle_results`] has what the calls leave in it.
+//! [`handle`] is the struct of a caller that holds keys or a verifier ([`content`]), and
+//! [`handle_results`] has what the calls leave in it. [`key_sources`] reads keys of bytes, [`held_keys`]
+//! tells what each can do, and [`key_forms`] writes one. [`verifiers`] makes a
+//! `jwt_verifier::Verifier` of keys and options, and verifies tokens with it.
+//!
+//! [`test_numbers`] has the numbers of the tests of a token, and [`texts`] the text of every number.
 #![tactic(auto)]
 
 pub mod answers;
 pub mod by_signature;
 pub mod claim_rules;
+pub mod content;
 pub mod handle;
 pub mod handle_results;
+pub mod held_keys;
 pub mod inputs;
 pub mod issued;
-pub mod key_files;
-pub mod keys;
+pub mod key_forms;
+pub mod key_sources;
 pub mod members;
 pub mod membership;
 pub mod options;
 mod raw_box;
 pub mod secrets;
-pub mod serving;
-pub mod shared;
 pub mod signatures;
 pub mod status;
 pub mod status_table;

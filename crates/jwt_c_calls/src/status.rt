@@ -130,7 +130,6 @@ fn input_status(input: Input) -> u32
 {
     match input {
         Input::Options => BAD_OPTIONS.0,
-        Input::Set => BAD_SET.0,
         Input::Header => BAD_HEADER.0,
         Input::Claims => BAD_CLAIMS.0,
         Input::Key => BAD_KEY.0,

@@ -93,8 +93,6 @@ pub const BAD_OPTIONS: Status = (101, "Invalid options");
 
 pub const UNKNOWN_NUMBER: Status = (102, "Unknown number");
 
-pub const BAD_SET: Status = (103, "Invalid key set");
-
 pub const BAD_HEADER: Status = (104, "Invalid header");
 
 pub const BAD_CLAIMS: Status = (105, "Invalid claims");
@@ -105,7 +103,7 @@ pub const ALL_ZERO_SECRET: Status = (107, "Secret is empty or all zeros");
 
 pub const NO_VERIFIER: Status = (108, "No verifier");
 
-pub const VERIFIER_IN_USE: Status = (109, "Verifier already made");
+pub const HANDLE_IN_USE: Status = (109, "Handle already in use");
 
 pub const NO_USABLE_KEY: Status = (110, "No key fits the algorithms");
 
@@ -115,6 +113,14 @@ pub const NO_MEMBER: Status = (112, "No such member");
 
 pub const KEY_AS_SECRET: Status = (113, "Secret is the text of a key");
 
+pub const NOT_FOR_SIGNATURES: Status = (115, "Key is not for signatures");
+
+pub const IS_CERTIFICATE: Status = (116, "Certificate, and not a key");
+
+pub const NO_KEYS: Status = (117, "No keys");
+
+pub const UNFIT_KEY: Status = (118, "Key fits no algorithm");
+
 /// Returns the text of a status, if the number is one.
 pub fn text_of(number: u32) -> Option<&'static str>
     ensures { option_map (λ t. t.now) result ≡ status_text number }
@@ -122,7 +128,7 @@ pub fn text_of(number: u32) -> Option<&'static str>
     text_in(&statuses(), number)
 }
 
-fn statuses() -> [Status; 52]
+fn statuses() -> [Status; 55]
     ensures { map (λ s. (s.0, s.1.now)) result ≡ statuses }
 {
     [
@@ -167,17 +173,20 @@ fn statuses() -> [Status; 52]
         BUFFER_TOO_SMALL,
         BAD_OPTIONS,
         UNKNOWN_NUMBER,
-        BAD_SET,
         BAD_HEADER,
         BAD_CLAIMS,
         BAD_KEY,
         ALL_ZERO_SECRET,
         NO_VERIFIER,
-        VERIFIER_IN_USE,
+        HANDLE_IN_USE,
         NO_USABLE_KEY,
         TOKEN_TOO_LONG,
         NO_MEMBER,
         KEY_AS_SECRET,
+        NOT_FOR_SIGNATURES,
+        IS_CERTIFICATE,
+        NO_KEYS,
+        UNFIT_KEY,
     ]
 }
 

@@ -1,33 +1,36 @@
-//! Verifiers of texts, and their answers.
+//! Verifiers of keys and options, and their answers.
 
-ghost use Rattle.std.specs.Prelude.{◌≡◌, ◌⊎◌, ◌≤◌, ◌↔◌, length, IfOk, IfErr, OnOk, IsTrue, Option};
+ghost use Rattle.std.specs.Prelude.{◌≡◌, ◌⊎◌, ◌≤◌, ◌↔◌, length, IfOk, IfErr, IsTrue, Option};
 ghost use Rattle.serde_json.specs.Data.{depth};
 ghost use Rattle.serde_json.specs.Read.{max_depth};
 ghost use Rattle.serde_json.specs.View.{view};
 ghost use Rattle.jwt_base.specs.KindOf.{kind_of, IsMemory};
+ghost use Rattle.jwt_base.specs.declared.algorithms.AlgorithmFamily.{AlgorithmFamily as Family};
+ghost use Rattle.jsonwebtoken.specs.Tests.{AgreesWith};
+ghost use Rattle.jwt_keys.specs.KeyOfJwk.{IsKeyOf};
+ghost use Rattle.jwt_key_items.specs.KeyItems.{kept_of};
 ghost use Rattle.jwt_validation.specs.Claim.{claims_of};
 ghost use Rattle.jwt_validation.specs.Moments.{last_moment};
 ghost use Rattle.jwt_validation.specs.OptionsOf.{options_of};
-ghost use Rattle.jwt_verifier.specs.Fitness.{AreFit};
+ghost use Rattle.jwt_verifier.specs.Fitness.{CanServe};
 ghost use Rattle.jwt_c_calls.specs.Calls.{Returns, IsTextOf};
-ghost use Rattle.jwt_c_calls.specs.Status.{key_as_secret, number};
-ghost use Rattle.jwt_c_calls.specs.Keys.{AnswersWithKey, AnswersWithOptions, AnswersWithSet};
+ghost use Rattle.jwt_c_calls.specs.Keys.{StandsForNoKey};
+ghost use Rattle.jwt_c_calls.specs.KeyLists.{keys_of};
+ghost use Rattle.jwt_c_calls.specs.Status.{number};
 ghost use Rattle.jwt_c_calls.specs.TestNumbers.{test_number as number_of_test};
-ghost use Rattle.jwt_c_calls.specs.Verifiers.{limits_of, unless_zero, problem_status};
-ghost use Rattle.jwt_base.specs.declared.algorithms.AlgorithmFamily.{AlgorithmFamily as Family};
-ghost use Rattle.jwt_c_calls.specs.Verifiers.{AnswersUntil, AreOfKey, IsFamilyFor};
-ghost use Rattle.jwt_c_calls.specs.Verifiers.{AreOfSecret, AreOfSet, IsMade, IsRefusedWith};
-ghost use Rattle.jwt_c_calls.specs.Verifiers.{AreRefused, HaveKeyText, HaveNoKeyText};
+ghost use Rattle.jwt_c_calls.specs.Verifiers.{limits_of, unless_zero, problem_status, AnswersUntil};
+ghost use Rattle.jwt_c_calls.specs.Verifiers.{AreAgreeing, HasAgreeing, HasSet, IsFamilyFor, IsOfKey, IsRefusedWith};
+ghost use Rattle.jwt_c_calls.specs.Verifiers.{IsUnfit, IsUnmade, IsVerifierOf, KeyServes, SetServes};
 
-use crate::keys::{options_and_key, options_and_secret, options_and_set};
+use crate::held_keys::HeldKeys;
+use crate::inputs::{Input, is_memory, read_as, read_options};
 use crate::status::{number_of, status_of};
-use crate::status_table::{
-    ALL_ZERO_SECRET, KEY_AS_SECRET, NO_USABLE_KEY, OUT_OF_MEMORY, TOKEN_TOO_LONG,
-};
+use crate::status_table::{ALL_ZERO_SECRET, NO_USABLE_KEY, OUT_OF_MEMORY, TOKEN_TOO_LONG};
 use crate::test_numbers::test_number;
 use jsonwebtoken::errors::{Error, ErrorKind, Result as Checked};
-use jsonwebtoken::{Refusal, TokenData};
-use jwt_secrets::key_texts::{has_key_text, set_has_key_text};
+use jsonwebtoken::jwk::KeyAlgorithm;
+use jsonwebtoken::{Algorithm, DecodingKey, Refusal, TokenData};
+use jwt_keys::jwk::Jwk;
 use jwt_validation::{Validation, claimed_moments};
 use jwt_verifier::{
     KeyProblem, Keys, Limits, PREPARED_LIMIT, TOKEN_LIMIT, Verifier, VerifierRefusal,
@@ -36,14 +39,14 @@ use serde_json::Value;
 use std::alloc::Global;
 use std::result::Result;
 
-/// Returns the limits that the arguments of a call stand for: a length of 0 is that of 1 MiB, and 0
-/// bytes of prepared keys are 64 MiB.
-pub fn limits(max_len: usize, allows_blank: bool, max_prepared: usize) -> Limits
-    ensures { result ≡ limits_of max_len allows_blank max_prepared }
+// Returns the limits that the arguments of a call stand for: a length of 0 is that of 1 MiB, and 0
+// bytes of prepared keys are 64 MiB. Keys with which anyone can sign are never added to a handle.
+fn limits(max_len: usize, max_prepared: usize) -> Limits
+    ensures { result ≡ limits_of max_len max_prepared }
 {
     Limits {
         max_len: given_or(max_len, TOKEN_LIMIT),
-        allows_blank,
+        allows_blank: true,
         max_prepared: given_or(max_prepared, PREPARED_LIMIT),
     }
 }
@@ -54,54 +57,143 @@ fn given_or(given: usize, usual: usize) -> usize
     if given == 0 { usual } else { given }
 }
 
-/// Returns the verifier with the options and the key set that two texts describe, or the status of
-/// the reason for which there is none.
-pub fn verifier_of_set(
+/// Returns the verifier with these keys and the options that a text describes, or the status of the
+/// reason for which there is none. A `max_len` of 0 stands for 1 MiB, and a `max_prepared` of 0 for 64
+/// MiB.
+pub fn verifier_of(
     alloc: Global,
+    keys: &HeldKeys,
     options: &[u8],
-    set: &[u8],
-    limits: Limits,
+    max_len: usize,
+    max_prepared: usize,
 ) -> Result<Verifier, u32>
-    ensures { IsMade (AnswersWithSet options.now set.now (λ _ _ _. ⊥))
-        (AreOfSet options.now set.now) limits result }
+    ensures ok { IfOk result (IsVerifierOf (keys_of keys.now) options.now
+        (limits_of max_len max_prepared)) }
+    ensures err { IfErr result (IsUnmade (keys_of keys.now) options.now) }
 {
-    match options_and_set(alloc, options, set) {
-        Ok((validation, keys)) => verifier_of(alloc, Keys::Set(keys), validation, limits),
+    let limits = limits(max_len, max_prepared);
+    match read_as(Input::Options, read_options(alloc, options)) {
+        Ok(validation) => match keys.lone() {
+            Some(jwk) => verifier_of_key(alloc, jwk, validation, limits),
+            None => verifier_of_set(alloc, keys, validation, limits),
+        },
         Err(refusal) => Err(status_of(&refusal)),
     }
 }
 
-/// Returns the verifier with the options and the key that two texts describe, like
-/// [`verifier_of_set`].
-pub fn verifier_of_key(
+// Returns the verifier with the kept keys of a set.
+fn verifier_of_set(
     alloc: Global,
-    options: &[u8],
-    key: &[u8],
+    keys: &HeldKeys,
+    validation: Validation,
     limits: Limits,
 ) -> Result<Verifier, u32>
-    ensures { IsMade (AnswersWithKey options.now key.now (λ _ _ _. ⊥))
-        (AreOfKey options.now key.now) limits result }
+    requires { IsTrue limits.allows_blank }
+    ensures ok { IfOk result (λ v. HasSet (kept_of keys.now.items.items) v.keys.keys
+        × (v.validation ≡ validation) × (v.limits ≡ limits) × (v.keys.prepared ≤ limits.max_prepared)
+        × SetServes validation.algorithms.items (kept_of keys.now.items.items)) }
+    ensures err { IfErr result (IsUnfit
+        (SetServes validation.algorithms.items (kept_of keys.now.items.items))) }
 {
-    match options_and_key(alloc, options, key) {
-        Ok((validation, key)) => verifier_of(alloc, Keys::One(key), validation, limits),
-        Err(refusal) => Err(status_of(&refusal)),
+    match keys.kept(alloc) {
+        Ok(set) => made_with(alloc, Keys::Set(set), validation, limits),
+        Err(_) => Err(OUT_OF_MEMORY.0),
     }
 }
 
-/// Returns the verifier with the options that a text describes, and a secret, for HMAC, like
-/// [`verifier_of_set`].
-pub fn verifier_of_secret(
+// Returns the verifier with one key, for the listed algorithms that agree with its own `alg`.
+fn verifier_of_key(
     alloc: Global,
-    options: &[u8],
-    secret: &[u8],
+    jwk: &Jwk,
+    mut validation: Validation,
     limits: Limits,
 ) -> Result<Verifier, u32>
-    ensures { IsMade (AnswersWithOptions options.now (λ _ _. ⊥))
-        (AreOfSecret options.now secret.now) limits result }
+    requires { IsTrue limits.allows_blank }
+    ensures ok { IfOk result (λ v. IsOfKey jwk.now v.keys.keys
+        × AreAgreeing jwk.now (options_of validation) (options_of v.validation)
+        × (v.limits ≡ limits) × (v.keys.prepared ≤ limits.max_prepared)
+        × KeyServes validation.algorithms.items jwk.now) }
+    ensures err { IfErr result (IsUnfit (KeyServes validation.algorithms.items jwk.now)) }
 {
-    match options_and_secret(alloc, options, secret) {
-        Ok((validation, key)) => verifier_of(alloc, Keys::One(key), validation, limits),
-        Err(refusal) => Err(status_of(&refusal)),
+    match key_and_algorithms(alloc, jwk, validation.algorithms.as_slice()) {
+        Ok((key, left)) => {
+            validation.algorithms = left;
+            made_with(alloc, Keys::One(key), validation, limits)
+        }
+        Err(refused) => {
+            if is_memory(&refused) {
+                Err(OUT_OF_MEMORY.0)
+            } else {
+                Err(NO_USABLE_KEY.0)
+            }
+        }
+    }
+}
+
+// Returns the key that a JSON Web Key stands for, and the algorithms that agree with its own `alg`.
+fn key_and_algorithms(
+    alloc: Global,
+    jwk: &Jwk,
+    algorithms: &[Algorithm],
+) -> Checked<(DecodingKey, Vec<Algorithm>)>
+    ensures key { IfOk result (λ p. IsKeyOf jwk.now.algorithm p.0) }
+    ensures algorithms { IfOk result (λ p. HasAgreeing jwk.now algorithms.now p.1.items) }
+    ensures err { IfErr result (λ e. IsMemory e ⊎ StandsForNoKey jwk.now (kind_of e)) }
+{
+    let key = DecodingKey::from_jwk(alloc, jwk)?;
+    let left = agreeing(alloc, jwk, algorithms)?;
+    Ok((key, left))
+}
+
+fn agreeing(alloc: Global, jwk: &Jwk, algorithms: &[Algorithm]) -> Checked<Vec<Algorithm>>
+    ensures ok { IfOk result (λ left. HasAgreeing jwk.now algorithms.now left.items) }
+    ensures err { IfErr result IsMemory }
+{
+    let mut left = Vec::new(alloc);
+    for algorithm in algorithms {
+        if agrees(jwk, *algorithm) {
+            left.push(*algorithm)?;
+        }
+    }
+    Ok(left)
+}
+
+fn agrees(jwk: &Jwk, algorithm: Algorithm) -> bool
+    ensures { IsTrue result ↔ AgreesWith algorithm jwk.now }
+{
+    match jwk.common.key_algorithm {
+        Some(named) => named == KeyAlgorithm::from(algorithm),
+        None => true,
+    }
+}
+
+// Returns the verifier with these keys and options, or the status of the reason for which there is
+// none.
+fn made_with(
+    alloc: Global,
+    keys: Keys,
+    validation: Validation,
+    limits: Limits,
+) -> Result<Verifier, u32>
+    requires { IsTrue limits.allows_blank }
+    ensures ok { IfOk result (λ v. (v.keys.keys ≡ keys) × (v.validation ≡ validation)
+        × (v.limits ≡ limits) × (v.keys.prepared ≤ limits.max_prepared)
+        × CanServe validation.algorithms.items keys) }
+    ensures err { IfErr result (IsUnfit (CanServe validation.algorithms.items keys)) }
+{
+    match Verifier::with_limits(alloc, keys, validation, limits) {
+        Ok(verifier) => Ok(verifier),
+        Err(problem) => Err(status_of_problem(problem)),
+    }
+}
+
+fn status_of_problem(problem: KeyProblem) -> u32
+    ensures { result ≡ problem_status problem }
+{
+    match problem {
+        KeyProblem::AllZero => ALL_ZERO_SECRET.0,
+        KeyProblem::NoUsableKey => NO_USABLE_KEY.0,
+        KeyProblem::Memory => OUT_OF_MEMORY.0,
     }
 }
 
@@ -151,63 +243,6 @@ pub fn decode_with_expiry(
             test: 0,
         }),
         Err(VerifierRefusal::Failed(refusal)) => Err(reason_of(&refusal)),
-    }
-}
-
-// Returns the verifier with these keys and options, or the status of the reason for which there is
-// none.
-fn verifier_of(
-    alloc: Global,
-    keys: Keys,
-    validation: Validation,
-    limits: Limits,
-) -> Result<Verifier, u32>
-    ensures ok { IfOk result (λ v. (v.keys.keys ≡ keys) × (v.validation ≡ validation)
-        × (v.limits ≡ limits) × HaveNoKeyText limits.allows_blank keys
-        × AreFit limits.allows_blank validation.algorithms.items keys
-        × (v.keys.prepared ≤ limits.max_prepared)) }
-    ensures err { IfErr result (AreRefused limits.allows_blank validation.algorithms.items keys) }
-{
-    check_key_texts(alloc, &keys, limits.allows_blank)?;
-    match Verifier::with_limits(alloc, keys, validation, limits) {
-        Ok(verifier) => Ok(verifier),
-        Err(problem) => Err(status_of_problem(problem)),
-    }
-}
-
-// Refuses keys of which a secret is the text of a key of another kind, unless that is allowed.
-fn check_key_texts(alloc: Global, keys: &Keys, allows_blank: bool) -> Result<(), u32>
-    ensures ok { OnOk result (HaveNoKeyText allows_blank keys.now) }
-    ensures err { IfErr result (λ status. (status ≡ 22)
-        ⊎ ((status ≡ key_as_secret) × (¬ IsTrue allows_blank) × HaveKeyText keys.now)) }
-{
-    if allows_blank {
-        return Ok(());
-    }
-    match have_key_text(alloc, keys) {
-        Ok(true) => Err(KEY_AS_SECRET.0),
-        Ok(false) => Ok(()),
-        Err(_) => Err(OUT_OF_MEMORY.0),
-    }
-}
-
-fn have_key_text(alloc: Global, keys: &Keys) -> Checked<bool>
-    ensures ok { IfOk result (λ yes. IsTrue yes ↔ HaveKeyText keys.now) }
-    ensures err { IfErr result IsMemory }
-{
-    match keys {
-        Keys::One(key) => has_key_text(alloc, key),
-        Keys::Set(set) => set_has_key_text(alloc, set),
-    }
-}
-
-fn status_of_problem(problem: KeyProblem) -> u32
-    ensures { result ≡ problem_status problem }
-{
-    match problem {
-        KeyProblem::AllZero => ALL_ZERO_SECRET.0,
-        KeyProblem::NoUsableKey => NO_USABLE_KEY.0,
-        KeyProblem::Memory => OUT_OF_MEMORY.0,
     }
 }
 

@@ -1,8 +1,9 @@
-use Rattle.jwt_c_calls.proofs.Answered.{answered}
-use Rattle.jwt_c_calls.specs.Issued.{AnswersThumbprint, hash_numbered}
+use Rattle.std.proofs.Common.{◌∙◌, refl, subst, sym}
+use Rattle.jwt_c_calls.specs.Contents.{keys_in}
+use Rattle.jwt_c_calls.specs.Held.{LeavesThumbprint, key_held}
 use Rattle.jwt_c.proofs.jwt_thumbprint.Goals as goal
 
-pub returns : goal.returns
-returns c = answered (λ b. b.items) (AnswersThumbprint (hash_numbered c.args.bits) c.args.key.now)
-    c.thumbprint_answer-answer.result c.leave.result c.leave.new.len c.args.room.now c.leave.new.room
-    c.thumbprint_answer-answer.ensures.ok c.thumbprint_answer-answer.ensures.err c.leave.ensures.given c.leave.ensures.kept
+pub returns-in-None-clause-thumbprint : goal.returns-in-None-clause-thumbprint
+returns-in-None-clause-thumbprint c =
+    subst (λ h. LeavesThumbprint h (key_held (keys_in c.args.keys.now.held) c.args.at) 6 0 c.args.room.now c.args.room.now)
+    (sym c.in-None.is ∙ c.numbered_hash.ensures) (record { number = refl; none = refl; room = refl })
