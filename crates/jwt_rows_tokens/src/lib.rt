@@ -18,6 +18,7 @@ pub mod external_signature;
 pub mod files;
 mod issue;
 mod jwks;
+pub mod kept;
 pub mod keys;
 pub mod places;
 pub mod prepared;

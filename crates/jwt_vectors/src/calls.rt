@@ -8,7 +8,7 @@ use jsonwebtoken::jwk::{
 use jsonwebtoken::{Enc, Zip};
 use jwt_rows::{Answer, Row};
 use jwt_rows_tokens::{
-    by_provider, external_signature, files, keys, places, prepared, sizes, tokens,
+    by_provider, external_signature, files, kept, keys, places, prepared, sizes, tokens,
 };
 use jwt_rows_values::arithmetic::numbers::{limb, modulus, natural};
 use jwt_rows_values::arithmetic::points::by_curve;
@@ -68,6 +68,7 @@ fn of_files(call: &str, row: &Row<'_>) -> Answer {
         "signing_input" => external_signature::input(row),
         "encode_by_signature" => external_signature::encode(row),
         "decode_by_verdict" => external_signature::decode(row),
+        "decode_with_kept" => kept::decode(row),
         "Jwk::thumbprint" | "Jwk::from_encoding_key" | "Jwk::from_decoding_key" => {
             by_provider::answer(call, row)
         }
