@@ -1,4 +1,4 @@
-/* Tests how much stack a call needs that verifies a token or makes a verifier. The call runs in a thread whose stack is painted before;
+/* Tests how much stack a call needs that reads keys, makes a verifier or verifies a token. The call runs in a thread whose stack is painted before;
    the bytes with another value afterwards were used. The tables of multiples of curve points are on the stack, and the JSON reader
    needs about 600 bytes for each level of nesting. */
 #include "keys.h"
@@ -17,7 +17,7 @@ enum { LEVELS = 126 };
 static const uint64_t EXPIRED = 2532525000;
 static const char BY_HMAC[] = "{\"algorithms\":[\"HS256\"]}";
 
-enum way { NOTHING, BY_SET, BY_VERIFIER, MAKES_VERIFIER };
+enum way { NOTHING, READS_KEYS, MAKES_VERIFIER, BY_VERIFIER };
 struct call {
     enum way way;
     const char *token, *options;
@@ -25,26 +25,21 @@ struct call {
 };
 
 static uint32_t status;
-static struct jwt_verifier verifier = JWT_VERIFIER_NONE;
-
-static uint32_t make_verifier(const char *options) {
-    return jwt_verifier_set(ALL_KEYS, strlen(ALL_KEYS), options, strlen(options), 0, false, 0, &verifier);
-}
+static struct jwt_handle keys = JWT_NONE, verifier = JWT_NONE;
 
 static void *make(void *given) {
     const struct call *call = given;
     static char claims[288];
-    size_t len;
+    size_t len, items, kept;
     uint64_t last;
     uint32_t failed_test;
-    if (call->way == BY_SET)
-        status = jwt_decode_set(call->token, strlen(call->token), ALL_KEYS, strlen(ALL_KEYS), call->options,
-                                strlen(call->options), call->now, claims, sizeof claims, &len);
+    if (call->way == READS_KEYS)
+        status = jwt_keys_add(&keys, JWT_TEXT, (const uint8_t *)ALL_KEYS, strlen(ALL_KEYS), &items, &kept);
+    else if (call->way == MAKES_VERIFIER)
+        status = jwt_verifier_new(&keys, call->options, strlen(call->options), 0, 0, &verifier);
     else if (call->way == BY_VERIFIER)
         status = jwt_verifier_decode(&verifier, call->token, strlen(call->token), call->now, claims, sizeof claims,
                                      &len, &last, &failed_test);
-    else if (call->way == MAKES_VERIFIER)
-        status = make_verifier(call->options);
     return NULL;
 }
 
@@ -72,7 +67,7 @@ static unsigned passed, failed;
 
 /* Tests the status of a call, and its stack beyond that of a thread that makes no call. */
 static void test(const char *name, const struct call *call, uint32_t wanted, size_t most) {
-    static const char *const CALLED[] = {"", "jwt_decode_set", "jwt_verifier_decode", "jwt_verifier_set"};
+    static const char *const CALLED[] = {"", "jwt_keys_add", "jwt_verifier_new", "jwt_verifier_decode"};
     static const struct call NO_CALL;
     const size_t thread = stack_of(&NO_CALL);
     status = UINT32_MAX;
@@ -84,15 +79,15 @@ static void test(const char *name, const struct call *call, uint32_t wanted, siz
            whole - thread, status);
 }
 
-/* Verifies a token with the key set, and with a verifier of the set. */
+/* Verifies a token with a verifier of the key set. */
 static void verify(const char *name, const char *token, const char *options, uint64_t now, uint32_t wanted,
                    size_t most) {
-    const struct call by_set = {BY_SET, token, options, now}, by_verifier = {BY_VERIFIER, token, options, now};
-    const struct call makes = {MAKES_VERIFIER, NULL, options, 0};
-    test(name, &by_set, wanted, most);
+    const struct call reads = {READS_KEYS, NULL, NULL, 0}, makes = {MAKES_VERIFIER, NULL, options, 0};
+    const struct call verifies = {BY_VERIFIER, token, options, now};
+    test(name, &reads, JWT_OK, MOST);
     test(name, &makes, JWT_OK, MOST);
-    test(name, &by_verifier, wanted, most);
-    jwt_verifier_free(&verifier);
+    test(name, &verifies, wanted, most);
+    jwt_free(&keys), jwt_free(&verifier);
 }
 
 /* Verifies a valid token, a forged one, and the valid one after it expired. */
@@ -117,8 +112,8 @@ static void write_nested(size_t of_header, size_t of_claims, char *token, size_t
     int claims_len = snprintf(claims, sizeof claims, "{\"exp\":2532524891,\"x\":[%.*s%.*s]}", (int)of_claims - 1, open,
                               (int)of_claims - 1, close);
     size_t len;
-    if (jwt_encode_hmac(header, (size_t)header_len, claims, (size_t)claims_len, (const uint8_t *)SECRET,
-                        strlen(SECRET), token, room - 1, &len) != JWT_OK)
+    if (jwt_encode_hmac(header, (size_t)header_len, claims, (size_t)claims_len, (const uint8_t *)SECRET, strlen(SECRET),
+                        token, room - 1, &len) != JWT_OK)
         len = 0;
     token[len] = 0;
 }

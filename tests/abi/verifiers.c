@@ -1,15 +1,9 @@
-/* Tests of the calls for C with a verifier. The last line counts. Through a verifier every token has the status, the length and the
-   bytes that the calls without one leave with the same texts. With the argument `few` fewer tokens are tried, for valgrind. */
-#include "jwtproved.h"
+/* Tests of the calls for C with a verifier. The last line counts. What a token is to have is computed here from its key, the options and the
+   time. With the argument `few` fewer tokens are tried, for valgrind. */
+#include "harness.h"
 #include "keys.h"
 #include <pthread.h>
-#include <stdio.h>
-#include <stdlib.h>
-#include <string.h>
 
-#define TEXT(text) (text), strlen(text)
-#define BYTES(text) (const uint8_t *)(text), strlen(text)
-#define COUNT(list) (sizeof(list) / sizeof *(list))
 #define ROOM 400
 #define OCT(k) "{\"kty\":\"oct\",\"kid\":\"hmac\",\"k\":\"" k "\"}"
 #define OKP(x) "{\"kty\":\"OKP\",\"crv\":\"Ed25519\",\"x\":\"" x "\"}"
@@ -32,41 +26,6 @@
 /* the last time at which the claims of keys.h are accepted */
 #define LAST 2532524951u
 
-static int passed, failed;
-
-static void is(const char *what, long got, long wanted) {
-    if (got == wanted) {
-        passed++;
-    } else {
-        failed++;
-        printf("FAILED: %s: %ld, not %ld\n", what, got, wanted);
-    }
-}
-
-/* ---- memory: requests are counted, and one of them refused */
-
-void *__real_malloc(size_t size);
-void *__real_calloc(size_t count, size_t size);
-void *__real_realloc(void *block, size_t size);
-void *__real_aligned_alloc(size_t align, size_t size);
-static __thread long requests, refused_one;
-
-static bool refuses(void) {
-    return ++requests == refused_one;
-}
-void *__wrap_malloc(size_t size) {
-    return refuses() ? NULL : __real_malloc(size);
-}
-void *__wrap_calloc(size_t count, size_t size) {
-    return refuses() ? NULL : __real_calloc(count, size);
-}
-void *__wrap_realloc(void *block, size_t size) {
-    return refuses() ? NULL : __real_realloc(block, size);
-}
-void *__wrap_aligned_alloc(size_t align, size_t size) {
-    return refuses() ? NULL : __real_aligned_alloc(align, size);
-}
-
 /* ---- verifiers */
 
 static bool is_few;
@@ -74,18 +33,8 @@ static bool is_few;
 /* the greatest number of bytes of prepared keys */
 static size_t max_prepared = 0;
 
-enum source { OF_SET, OF_KEY, OF_SECRET };
-
-static uint32_t make(enum source source, const char *keys, const char *options, size_t max_len, bool allows_blank,
-                     struct jwt_verifier *verifier) {
-    switch (source) {
-    case OF_SET:
-        return jwt_verifier_set(TEXT(keys), TEXT(options), max_len, allows_blank, max_prepared, verifier);
-    case OF_KEY:
-        return jwt_verifier_key(TEXT(keys), TEXT(options), max_len, allows_blank, max_prepared, verifier);
-    default:
-        return jwt_verifier_secret(BYTES(keys), TEXT(options), max_len, allows_blank, max_prepared, verifier);
-    }
+static uint32_t made_of(uint32_t source, const char *keys, const char *options, struct jwt_handle *verifier) {
+    return make(source, keys, options, 0, max_prepared, verifier);
 }
 
 struct answer {
@@ -96,139 +45,107 @@ struct answer {
     char room[ROOM];
 };
 
-static struct answer decode(struct jwt_verifier *verifier, const char *token, size_t token_len, uint64_t now,
+static struct answer decode(struct jwt_handle *verifier, const char *token, size_t token_len, uint64_t now,
                             size_t room) {
     struct answer a = {0, 5, 5, 5, {0}};
     a.status = jwt_verifier_decode(verifier, token, token_len, now, a.room, room, &a.len, &a.last, &a.test);
     return a;
 }
 
-static long status(struct jwt_verifier *verifier, const char *token) {
+static long status(struct jwt_handle *verifier, const char *token) {
     return decode(verifier, TEXT(token), 0, ROOM).status;
 }
 
-/* ---- made of texts, or not */
+/* ---- made of keys and options, or not */
 
 static void made(void) {
     static const struct {
-        enum source source;
+        uint32_t source;
         const char *keys, *options;
         uint32_t status;
     } rows[] = {
-        {OF_SET, ALL_KEYS, HS256, JWT_OK},
-        {OF_SET, ALL_KEYS, EDDSA, JWT_OK},
-        {OF_SET, SET_OF(RSA_KEY), RS256, JWT_OK},
-        {OF_SET, SET_OF(SMALL_RSA "," RSA_KEY), RS256, JWT_OK},
-        {OF_SET, SET_OF(OCT("*") "," HMAC_KEY), HS256, JWT_OK},
-        {OF_SET, SET_OF(ED_KEY "," OCT_UNNAMED "," HMAC_KEY), HS256, JWT_OK},
-        {OF_SET, ALL_KEYS, "{\"algorithms\":[\"RS256\",\"PS512\",\"RS384\"]}", JWT_OK},
-        /* texts, first that of the options */
-        {OF_SET, "{", "{", JWT_BAD_OPTIONS},
-        {OF_SET, ALL_KEYS, "{\"algorithms\":7}", JWT_BAD_OPTIONS},
-        {OF_SET, HMAC_KEY, HS256, JWT_BAD_SET},
-        {OF_KEY, "{", "", JWT_BAD_OPTIONS},
-        {OF_KEY, "[]", HS256, JWT_BAD_KEY},
-        {OF_KEY, ALL_KEYS, HS256, JWT_UNSUPPORTED_ALGORITHM},
-        {OF_KEY, OCT("*"), HS256, JWT_BASE64},
-        {OF_KEY, "{\"kty\":\"AKP\",\"k\":\"AAAA\"}", HS256, JWT_UNSUPPORTED_ALGORITHM},
-        {OF_SECRET, "a secret", "[", JWT_BAD_OPTIONS},
+        {JWT_TEXT, ALL_KEYS, HS256, JWT_OK},
+        {JWT_TEXT, ALL_KEYS, EDDSA, JWT_OK},
+        {JWT_TEXT, SET_OF(RSA_KEY), RS256, JWT_OK},
+        {JWT_TEXT, SET_OF(SMALL_RSA "," RSA_KEY), RS256, JWT_OK},
+        {JWT_TEXT, SET_OF(OCT("*") "," HMAC_KEY), HS256, JWT_OK},
+        {JWT_TEXT, SET_OF(ED_KEY "," OCT_UNNAMED "," HMAC_KEY), HS256, JWT_OK},
+        {JWT_TEXT, ALL_KEYS, "{\"algorithms\":[\"RS256\",\"PS512\",\"RS384\"]}", JWT_OK},
+        /* the options are read before the keys are looked at */
+        {JWT_TEXT, SET_OF(""), "{", JWT_BAD_OPTIONS},
+        {JWT_TEXT, ALL_KEYS, "{\"algorithms\":7}", JWT_BAD_OPTIONS},
+        {JWT_TEXT, ED_KEY, "", JWT_BAD_OPTIONS},
+        {JWT_SECRET, "a secret", "[", JWT_BAD_OPTIONS},
         /* an empty name, which stands for a setting that was left out */
-        {OF_SET, "{", "{\"algorithms\":[\"HS256\"],\"aud\":[\"\"]}", JWT_BAD_OPTIONS},
-        {OF_KEY, HMAC_KEY, "{\"algorithms\":[\"HS256\"],\"iss\":[\"a\",\"\"]}", JWT_BAD_OPTIONS},
-        {OF_SECRET, "a secret", "{\"algorithms\":[\"HS256\"],\"sub\":\"\"}", JWT_BAD_OPTIONS},
-        /* keys with which anyone can sign, before those that do not serve */
-        {OF_SET, SET_OF(RSA_KEY "," OCT("")), HS256, JWT_ALL_ZERO_SECRET},
-        {OF_SET, SET_OF(RSA_KEY "," OCT("AAAA")), RS256, JWT_ALL_ZERO_SECRET},
-        {OF_SET, SET_OF(OCT("AAAA")), RS256, JWT_ALL_ZERO_SECRET},
-        {OF_KEY, OCT("AA"), HS256, JWT_ALL_ZERO_SECRET},
-        {OF_KEY, OCT(""), RS256, JWT_ALL_ZERO_SECRET},
-        {OF_SECRET, "", HS256, JWT_ALL_ZERO_SECRET},
-        {OF_SECRET, "", MIXED, JWT_ALL_ZERO_SECRET},
-        /* secrets that are the text of a key of another kind, before blank ones */
-        {OF_SECRET, PEM, HS256, JWT_KEY_AS_SECRET},
-        {OF_SECRET, PEM, MIXED, JWT_KEY_AS_SECRET},
-        {OF_SECRET, ED_KEY, HS256, JWT_KEY_AS_SECRET},
-        {OF_SECRET, ALL_KEYS, HS256, JWT_KEY_AS_SECRET},
-        {OF_SECRET, "ssh-ed25519 AAAA", HS256, JWT_KEY_AS_SECRET},
-        {OF_SECRET, "LS0tLS1CRUdJTiA=", HS256, JWT_KEY_AS_SECRET},
-        {OF_SECRET, PEM, "[", JWT_BAD_OPTIONS},
-        {OF_KEY, OCT("c3NoLXJzYQ"), HS256, JWT_KEY_AS_SECRET},
-        {OF_KEY, OCT("LS0tLS1CRUdJTiA"), RS256, JWT_KEY_AS_SECRET},
-        {OF_SET, SET_OF(RSA_KEY "," OCT("c3NoLXJzYQ")), RS256, JWT_KEY_AS_SECRET},
-        {OF_SET, SET_OF(OCT("AAAA") "," OCT("c3NoLXJzYQ")), HS256, JWT_KEY_AS_SECRET},
+        {JWT_TEXT, ALL_KEYS, "{\"algorithms\":[\"HS256\"],\"aud\":[\"\"]}", JWT_BAD_OPTIONS},
+        {JWT_TEXT, HMAC_KEY, "{\"algorithms\":[\"HS256\"],\"iss\":[\"a\",\"\"]}", JWT_BAD_OPTIONS},
+        {JWT_SECRET, "a secret", "{\"algorithms\":[\"HS256\"],\"sub\":\"\"}", JWT_BAD_OPTIONS},
+        /* items with which anyone can sign are skipped, and others count */
+        {JWT_TEXT, SET_OF(RSA_KEY "," OCT("")), HS256, JWT_NO_USABLE_KEY},
+        {JWT_TEXT, SET_OF(RSA_KEY "," OCT("AAAA")), RS256, JWT_OK},
+        {JWT_TEXT, SET_OF(RSA_KEY "," OCT("c3NoLXJzYQ")), RS256, JWT_OK},
+        {JWT_TEXT, SET_OF(OCT("AAAA") "," OCT("c3NoLXJzYQ")), HS256, JWT_NO_USABLE_KEY},
         /* algorithms of several families */
-        {OF_SET, ALL_KEYS, MIXED, JWT_OK},
-        {OF_SET, ALL_KEYS, "{\"algorithms\":[\"ES384\",\"HS256\"]}", JWT_OK},
-        {OF_SET, ALL_KEYS, "{\"algorithms\":[\"ES256\",\"ES384\",\"EdDSA\"]}", JWT_OK},
-        {OF_SET, SET_OF(""), MIXED, JWT_NO_USABLE_KEY},
-        {OF_SET, SET_OF(SMALL_RSA "," OFF_CURVE), "{\"algorithms\":[\"RS256\",\"ES256\"]}", JWT_NO_USABLE_KEY},
-        {OF_KEY, HMAC_KEY, MIXED, JWT_OK},
-        {OF_KEY, RSA_KEY, MIXED, JWT_OK},
-        {OF_KEY, ED_KEY, MIXED, JWT_NO_USABLE_KEY},
-        {OF_SECRET, "a secret", MIXED, JWT_OK},
-        /* keys that serve no algorithm of the options */
-        {OF_SET, SET_OF(""), HS256, JWT_NO_USABLE_KEY},
-        {OF_SET, SET_OF(OCT_UNNAMED), HS256, JWT_NO_USABLE_KEY},
-        {OF_SET, SET_OF(ED_KEY "," OCT_UNNAMED), HS256, JWT_NO_USABLE_KEY},
-        {OF_SET, ALL_KEYS, "{\"algorithms\":[]}", JWT_NO_USABLE_KEY},
-        {OF_SET, ALL_KEYS, "{}", JWT_NO_USABLE_KEY},
-        {OF_SET, SET_OF(HMAC_KEY "," P256_KEY), RS256, JWT_NO_USABLE_KEY},
-        {OF_SET, SET_OF(P256_KEY), "{\"algorithms\":[\"ES384\"]}", JWT_NO_USABLE_KEY},
-        {OF_SET, SET_OF(SMALL_RSA "," OFF_CURVE), RS256, JWT_NO_USABLE_KEY},
-        {OF_SET, SET_OF(SMALL_RSA "," OFF_CURVE), ES256, JWT_NO_USABLE_KEY},
-        {OF_SET, SET_OF(OCT("*")), HS256, JWT_NO_USABLE_KEY},
-        {OF_KEY, HMAC_KEY, RS256, JWT_NO_USABLE_KEY},
-        {OF_KEY, RSA_KEY, HS256, JWT_NO_USABLE_KEY},
-        {OF_KEY, SMALL_RSA, RS256, JWT_NO_USABLE_KEY},
-        {OF_KEY, OFF_CURVE, ES256, JWT_NO_USABLE_KEY},
-        {OF_KEY, P384_KEY, ES256, JWT_NO_USABLE_KEY},
-        {OF_KEY, OKP("AAAA"), EDDSA, JWT_NO_USABLE_KEY},
-        {OF_SECRET, "a secret", RS256, JWT_NO_USABLE_KEY},
-        {OF_KEY, P256_KEY, "{\"algorithms\":[\"ES384\",\"ES256\"]}", JWT_OK},
-        {OF_KEY, ED_KEY, EDDSA, JWT_OK},
-        {OF_SECRET, "s", HS256, JWT_OK},
-        {OF_KEY, OCT_UNNAMED, HS256, JWT_OK},
+        {JWT_TEXT, ALL_KEYS, MIXED, JWT_OK},
+        {JWT_TEXT, ALL_KEYS, "{\"algorithms\":[\"ES384\",\"HS256\"]}", JWT_OK},
+        {JWT_TEXT, ALL_KEYS, "{\"algorithms\":[\"ES256\",\"ES384\",\"EdDSA\"]}", JWT_OK},
+        {JWT_TEXT, SET_OF(""), MIXED, JWT_NO_USABLE_KEY},
+        {JWT_TEXT, SET_OF(SMALL_RSA "," OFF_CURVE), "{\"algorithms\":[\"RS256\",\"ES256\"]}", JWT_NO_USABLE_KEY},
+        {JWT_TEXT, HMAC_KEY, MIXED, JWT_OK},
+        {JWT_TEXT, RSA_KEY, MIXED, JWT_OK},
+        {JWT_TEXT, ED_KEY, MIXED, JWT_NO_USABLE_KEY},
+        {JWT_SECRET, "a secret", MIXED, JWT_OK},
+        /* keys that fit no algorithm of the options */
+        {JWT_TEXT, SET_OF(""), HS256, JWT_NO_USABLE_KEY},
+        {JWT_TEXT, SET_OF(OCT_UNNAMED), HS256, JWT_NO_USABLE_KEY},
+        {JWT_TEXT, SET_OF(ED_KEY "," OCT_UNNAMED), HS256, JWT_NO_USABLE_KEY},
+        {JWT_TEXT, ALL_KEYS, "{\"algorithms\":[]}", JWT_NO_USABLE_KEY},
+        {JWT_TEXT, ALL_KEYS, "{}", JWT_NO_USABLE_KEY},
+        {JWT_TEXT, SET_OF(HMAC_KEY "," P256_KEY), RS256, JWT_NO_USABLE_KEY},
+        {JWT_TEXT, SET_OF(P256_KEY), "{\"algorithms\":[\"ES384\"]}", JWT_NO_USABLE_KEY},
+        {JWT_TEXT, SET_OF(OCT("*")), HS256, JWT_NO_USABLE_KEY},
+        {JWT_TEXT, HMAC_KEY, RS256, JWT_NO_USABLE_KEY},
+        {JWT_TEXT, RSA_KEY, HS256, JWT_NO_USABLE_KEY},
+        {JWT_TEXT, P384_KEY, ES256, JWT_NO_USABLE_KEY},
+        {JWT_SECRET, "a secret", RS256, JWT_NO_USABLE_KEY},
+        {JWT_TEXT, P256_KEY, "{\"algorithms\":[\"ES384\",\"ES256\"]}", JWT_OK},
+        {JWT_TEXT, ED_KEY, EDDSA, JWT_OK},
+        {JWT_SECRET, "s", HS256, JWT_OK},
+        {JWT_TEXT, OCT_UNNAMED, HS256, JWT_OK},
     };
     for (size_t i = 0; i < COUNT(rows); i++) {
-        struct jwt_verifier v = JWT_VERIFIER_NONE;
-        is(rows[i].keys, make(rows[i].source, rows[i].keys, rows[i].options, 0, false, &v), rows[i].status);
+        struct jwt_handle v = JWT_NONE;
+        is(rows[i].keys, made_of(rows[i].source, rows[i].keys, rows[i].options, &v), rows[i].status);
         is("a verifier exactly if it is made", v.at != NULL, rows[i].status == JWT_OK);
-        jwt_verifier_free(&v);
+        jwt_free(&v);
         is("freed", v.at == NULL, 1);
-        bool is_blank = rows[i].status == JWT_ALL_ZERO_SECRET || rows[i].status == JWT_KEY_AS_SECRET;
-        bool serves = strcmp(rows[i].options, HS256) == 0 || strcmp(rows[i].options, MIXED) == 0;
-        uint32_t others = serves || strstr(rows[i].keys, "RSA") ? JWT_OK : JWT_NO_USABLE_KEY;
-        is("keys with which anyone can sign that are allowed",
-           make(rows[i].source, rows[i].keys, rows[i].options, 0, true, &v), is_blank ? others : rows[i].status);
-        jwt_verifier_free(&v);
     }
 }
 
 /* ---- slips */
 
 static void slips(void) {
-    struct jwt_verifier v = JWT_VERIFIER_NONE, w = JWT_VERIFIER_NONE;
+    struct jwt_handle v = JWT_NONE, w = JWT_NONE, keys = JWT_NONE;
     is("no verifier", status(&v, BY_HS256), JWT_NO_VERIFIER);
-    is("a share of none", jwt_verifier_share(&v, &w), JWT_NO_VERIFIER);
-    jwt_verifier_free(&v);
-    is("made", make(OF_SET, ALL_KEYS, HS256, 0, false, &v), JWT_OK);
+    is("made", made_of(JWT_TEXT, ALL_KEYS, HS256, &v), JWT_OK);
     void *at = v.at;
-    is("made twice", make(OF_SET, ALL_KEYS, RS256, 0, false, &v), JWT_VERIFIER_IN_USE);
-    is("made of nothing then", make(OF_KEY, "{", "{", 0, false, &v), JWT_VERIFIER_IN_USE);
+    add(&keys, JWT_TEXT, ALL_KEYS);
+    is("made twice", jwt_verifier_new(&keys, TEXT(RS256), 0, 0, &v), JWT_HANDLE_IN_USE);
     is("it is unchanged", v.at == at && status(&v, BY_HS256) == JWT_OK, 1);
-    is("shared", jwt_verifier_share(&v, &w), JWT_OK);
-    is("shared twice", jwt_verifier_share(&v, &w), JWT_VERIFIER_IN_USE);
-    is("a share of none in the place of one", (jwt_verifier_free(&v), jwt_verifier_share(&v, &w)), JWT_VERIFIER_IN_USE);
+    jwt_free(&keys);
+    is("shared", jwt_share(&v, &w), JWT_OK);
+    is("shared twice", jwt_share(&v, &w), JWT_HANDLE_IN_USE);
+    is("a share of none in the place of one", (jwt_free(&v), jwt_share(&v, &w)), JWT_HANDLE_IN_USE);
     is("freed", status(&v, BY_HS256), JWT_NO_VERIFIER);
     is("the share stays", status(&w, BY_HS256), JWT_OK);
-    struct jwt_verifier moved = w;
+    struct jwt_handle moved = w;
     is("moved", status(&moved, BY_HS256), JWT_OK);
-    jwt_verifier_free(&moved);
-    jwt_verifier_free(&moved);
+    jwt_free(&moved);
+    jwt_free(&moved);
     is("freed twice", moved.at == NULL, 1);
-    is("made again", make(OF_KEY, ED_KEY, EDDSA, 0, false, &moved), JWT_OK);
+    is("made again", made_of(JWT_TEXT, ED_KEY, EDDSA, &moved), JWT_OK);
     is("of another key", status(&moved, BY_EDDSA), JWT_OK);
-    jwt_verifier_free(&moved);
+    jwt_free(&moved);
 }
 
 /* ---- the length of a token */
@@ -236,9 +153,9 @@ static void slips(void) {
 static void lengths(void) {
     static const size_t limits[] = {1, 166, 167, 168, 0};
     for (size_t i = 0; i < COUNT(limits); i++) {
-        struct jwt_verifier v = JWT_VERIFIER_NONE;
+        struct jwt_handle v = JWT_NONE;
         size_t limit = limits[i] ? limits[i] : JWT_TOKEN_LIMIT, len = strlen(BY_HS256);
-        is("made", make(OF_KEY, HMAC_KEY, HS256, limits[i], false, &v), JWT_OK);
+        is("made", make(JWT_TEXT, HMAC_KEY, HS256, limits[i], 0, &v), JWT_OK);
         is("a token by its length", status(&v, BY_HS256), len > limit ? JWT_TOKEN_TOO_LONG : JWT_OK);
         char *token = calloc(limit + 1, 1);
         is("as long as allowed", decode(&v, token, limit, 0, ROOM).status, JWT_INVALID_TOKEN);
@@ -247,26 +164,57 @@ static void lengths(void) {
         is("one byte longer", a.status == JWT_TOKEN_TOO_LONG && a.len == 0 && a.last == 0 && a.test == 0, 1);
         is("nothing is asked for", requests, 0);
         free(token);
-        jwt_verifier_free(&v);
+        jwt_free(&v);
     }
 }
 
-/* ---- the same as without a verifier */
+/* ---- keys, options, tokens and times, each with each */
 
-static const char *all_options[] = {
-    HS256,
-    RS256,
-    ES256,
-    "{\"algorithms\":[\"ES384\"]}",
-    EDDSA,
-    MIXED,
-    "{\"algorithms\":[\"HS256\",\"HS512\"],\"sub\":\"b@b.com\"}",
-    "{\"algorithms\":[\"HS256\"],\"leeway\":0,\"sub\":\"nobody\"}",
+/* with the kids of the keys that are kept; of one key its own. The set that begins with another secret has that under the kid. */
+static const struct {
+    const char *text, *kids;
+    bool is_set, is_other_secret;
+} lists[] = {
+    {HMAC_KEY, "hmac", false, false},
+    {RSA_KEY, "rsa", false, false},
+    {P256_KEY, "p256", false, false},
+    {P384_KEY, "p384", false, false},
+    {ED_KEY, "ed", false, false},
+    {ALL_KEYS, "hmac rsa p256 p384 ed", true, false},
+    {SET_OF(RSA_KEY "," HMAC_KEY), "rsa hmac", true, false},
+    {SET_OF(OCT("*") "," ED_KEY "," RSA_KEY "," HMAC_KEY), "ed rsa hmac", true, false},
+    {SET_OF(OCT("YQ") "," P256_KEY), "hmac p256", true, true},
 };
-static const char *keys[] = {HMAC_KEY, RSA_KEY, P256_KEY, P384_KEY, ED_KEY};
-static const char *sets[] = {ALL_KEYS, SET_OF(RSA_KEY "," HMAC_KEY),
-                             SET_OF(OCT("*") "," ED_KEY "," RSA_KEY "," HMAC_KEY), SET_OF(OCT("YQ") "," P256_KEY)};
-static const char *tokens[] = {BY_HS256, BY_RS256, BY_PS256, BY_ES256, BY_ES384, BY_EDDSA, "", "a.b.c", ".."};
+/* with the last time at which the claims are accepted, and whether they have the subject */
+static const struct {
+    const char *text;
+    uint64_t last;
+    bool has_subject;
+} all_options[] = {
+    {HS256, LAST, true},
+    {RS256, LAST, true},
+    {ES256, LAST, true},
+    {"{\"algorithms\":[\"ES384\"]}", LAST, true},
+    {EDDSA, LAST, true},
+    {MIXED, LAST, true},
+    {"{\"algorithms\":[\"HS256\",\"HS512\"],\"sub\":\"b@b.com\"}", LAST, true},
+    {"{\"algorithms\":[\"HS256\"],\"leeway\":0,\"sub\":\"nobody\"}", LAST - 60, false},
+};
+/* with the quoted name of the algorithm and the kid, or with the status of a text that is no token */
+static const struct {
+    const char *text, *algorithm, *kid;
+    uint32_t status;
+} tokens[] = {
+    {BY_HS256, "\"HS256\"", "hmac", JWT_OK},
+    {BY_RS256, "\"RS256\"", "rsa", JWT_OK},
+    {BY_PS256, "\"PS256\"", "rsa", JWT_OK},
+    {BY_ES256, "\"ES256\"", "p256", JWT_OK},
+    {BY_ES384, "\"ES384\"", "p384", JWT_OK},
+    {BY_EDDSA, "\"EdDSA\"", "ed", JWT_OK},
+    {"", NULL, NULL, JWT_INVALID_TOKEN},
+    {"a.b.c", NULL, NULL, JWT_BASE64},
+    {"..", NULL, NULL, JWT_JSON},
+};
 static const uint64_t times[] = {0, 1700000000, 2532524891u, LAST, LAST + 1, UINT64_MAX};
 /* the kinds of which one is the status if the test fails, by docs/RULES.md; the last test has those of the claim rules, and a test that no
    verifier fails is not here */
@@ -292,16 +240,6 @@ static const struct {
 };
 static long compared;
 
-static struct answer stateless(enum source source, const char *key, const char *options, const char *token, size_t len,
-                               uint64_t now, size_t room) {
-    struct answer a = {0, 5, 5, 5, {0}};
-    if (source == OF_SET)
-        a.status = jwt_decode_set(token, len, TEXT(key), TEXT(options), now, a.room, room, &a.len);
-    else
-        a.status = jwt_decode_key(token, len, TEXT(key), TEXT(options), now, a.room, room, &a.len);
-    return a;
-}
-
 /* whether the test is one of which the status comes */
 static bool agrees(uint32_t test, uint32_t status) {
     if (status == JWT_OK || status == JWT_BUFFER_TOO_SMALL) return test == 0;
@@ -310,92 +248,88 @@ static bool agrees(uint32_t test, uint32_t status) {
     return false;
 }
 
-/* Whether a verifier leaves what the call without one leaves, the last time, which is LAST of accepted tokens, and a test of which the
-   status comes. Sets *test. */
-static bool is_alike(struct jwt_verifier *v, const struct answer *plain, const char *token, size_t len, uint64_t now,
-                     size_t room, uint32_t *test) {
-    struct answer a = decode(v, token, len, now, room);
-    bool is_accepted = plain->status == JWT_OK || plain->status == JWT_BUFFER_TOO_SMALL;
-    compared++;
-    *test = a.test;
-    return a.status == plain->status && a.len == plain->len && memcmp(a.room, plain->room, ROOM) == 0 &&
-           a.last == (is_accepted ? LAST : 0) && agrees(a.test, a.status);
-}
-
-/* whether a verifier, and one that keeps nothing prepared, leave it, and the same test */
-static bool are_alike(struct jwt_verifier v[2], const struct answer *plain, const char *token, size_t len, uint64_t now,
-                      size_t room) {
-    uint32_t test[2];
-    bool is_well = is_alike(&v[0], plain, token, len, now, room, &test[0]);
-    return is_alike(&v[1], plain, token, len, now, room, &test[1]) && is_well && test[0] == test[1];
-}
-
-/* The options with which the call without a verifier leaves the same: those of the algorithms that are of the family of the key that the token
-   names; if none is, all. */
-static const char *options_for(enum source source, const char *key, const char *options, const char *token) {
-    bool is_set = source == OF_SET;
-    if (strcmp(options, MIXED) != 0) return options;
-    if (is_set ? strcmp(token, BY_HS256) == 0 : strstr(key, "\"oct\"") != NULL) return HS256;
-    if (is_set ? strcmp(token, BY_RS256) == 0 || strcmp(token, BY_PS256) == 0 : strstr(key, "\"RSA\"") != NULL)
-        return "{\"algorithms\":[\"RS256\"]}";
-    return options;
-}
-
-/* the token as it is at each time, and damaged at every so many bytes */
-static void compare(struct jwt_verifier *v, enum source source, const char *key, const char *options, const char *text,
-                    size_t step) {
-    const char *plain = options_for(source, key, options, text);
-    struct jwt_verifier both[2] = {*v, JWT_VERIFIER_NONE};
-    char token[800];
-    size_t len = strlen(text), wrong = 0, kept = max_prepared;
-    memcpy(token, text, len);
-    max_prepared = JWT_PREPARE_NOTHING;
-    make(source, key, options, 0, false, &both[1]);
-    max_prepared = kept;
-    for (size_t i = 0; i < 2 * COUNT(times); i++) {
-        size_t room = i % 2 ? ROOM : 10;
-        struct answer a = stateless(source, key, plain, token, len, times[i / 2], room);
-        wrong += !are_alike(both, &a, token, len, times[i / 2], room);
-    }
-    for (size_t at = 0; at < len; at += step) {
-        token[at] ^= 1;
-        struct answer a = stateless(source, key, plain, token, len, 1700000000, ROOM);
-        wrong += !are_alike(both, &a, token, len, 1700000000, ROOM);
-        token[at] ^= 1;
-    }
-    *v = both[0];
-    jwt_verifier_free(&both[1]);
-    is(text, wrong, 0);
-}
-
-/* whether the call without a verifier accepts the token at some time */
-static bool accepts(enum source source, const char *key, const char *options, const char *token) {
-    for (size_t i = 0; i < COUNT(times); i++)
-        if (stateless(source, key, options, TEXT(token), times[i], ROOM).status == JWT_OK) return true;
+/* whether a key of the list verifies with an algorithm of the options */
+static bool is_usable(size_t list, size_t options) {
+    for (size_t t = 0; t < COUNT(tokens); t++)
+        if (tokens[t].kid && strstr(lists[list].kids, tokens[t].kid) &&
+            strstr(all_options[options].text, tokens[t].algorithm))
+            return true;
     return false;
 }
 
-static void compare_all(enum source source, const char **list, size_t count, size_t step) {
-    for (size_t k = 0; k < count; k++)
+/* the status that a token is to have */
+static uint32_t wanted(size_t list, size_t options, size_t token, uint64_t now) {
+    const char *kid = lists[list].is_set ? tokens[token].kid : lists[list].kids;
+    if (tokens[token].status != JWT_OK) return tokens[token].status;
+    if (!strstr(lists[list].kids, kid)) return JWT_NO_KEY;
+    if (strcmp(kid, tokens[token].kid) != 0) return JWT_INVALID_ALGORITHM;
+    if (!strstr(all_options[options].text, tokens[token].algorithm)) return JWT_INVALID_ALGORITHM;
+    if (lists[list].is_other_secret && strcmp(kid, "hmac") == 0) return JWT_INVALID_SIGNATURE;
+    if (now > all_options[options].last) return JWT_EXPIRED_SIGNATURE;
+    return all_options[options].has_subject ? JWT_OK : JWT_INVALID_SUBJECT;
+}
+
+/* Whether a verifier, and one that keeps nothing prepared, leave the same: this status, the claims, the last time if the token is accepted,
+   and a test of which the status comes. */
+static bool is_right(struct jwt_handle v[2], uint32_t status, const char *token, size_t len, uint64_t now, size_t room,
+                     uint64_t last) {
+    static const char claims[] = "{\"company\":\"ACME\",\"exp\":2532524891,\"sub\":\"b@b.com\"}";
+    bool is_accepted = status == JWT_OK;
+    struct answer a = decode(&v[0], token, len, now, room), b = decode(&v[1], token, len, now, room);
+    compared += 2;
+    if (is_accepted && room < strlen(claims)) status = JWT_BUFFER_TOO_SMALL;
+    return a.status == status && a.len == (is_accepted ? strlen(claims) : 0) && agrees(a.test, status) &&
+           memcmp(a.room, claims, status == JWT_OK ? a.len : 0) == 0 && a.last == (is_accepted ? last : 0) &&
+           b.status == a.status && b.len == a.len && b.test == a.test && b.last == a.last &&
+           memcmp(b.room, a.room, ROOM) == 0;
+}
+
+/* whether both verifiers refuse a damaged token by the same test */
+static bool is_refused(struct jwt_handle v[2], const char *token, size_t len) {
+    struct answer a = decode(&v[0], token, len, 1700000000, ROOM), b = decode(&v[1], token, len, 1700000000, ROOM);
+    compared += 2;
+    return a.status != JWT_OK && agrees(a.test, a.status) && a.len == 0 && a.last == 0 && b.status == a.status &&
+           b.test == a.test && b.len == 0 && b.last == 0;
+}
+
+/* the token as it is at each time, and damaged at every so many bytes */
+static void compare(struct jwt_handle v[2], size_t list, size_t options, size_t token, size_t step) {
+    char text[800];
+    size_t len = strlen(tokens[token].text), wrong = 0;
+    memcpy(text, tokens[token].text, len);
+    for (size_t i = 0; i < 2 * COUNT(times); i++) {
+        uint32_t status = wanted(list, options, token, times[i / 2]);
+        wrong += !is_right(v, status, text, len, times[i / 2], i % 2 ? ROOM : 10, all_options[options].last);
+    }
+    for (size_t at = 0; at < len; at += step) {
+        text[at] ^= 1;
+        wrong += !is_refused(v, text, len);
+        text[at] ^= 1;
+    }
+    is(tokens[token].text, wrong, 0);
+}
+
+static void compare_all(size_t step) {
+    for (size_t k = 0; k < COUNT(lists); k++)
         for (size_t o = 0; o < COUNT(all_options); o++) {
-            struct jwt_verifier v = JWT_VERIFIER_NONE;
-            uint32_t status = make(source, list[k], all_options[o], 0, false, &v);
-            is("made, or not", status == JWT_OK || status == JWT_NO_USABLE_KEY, 1);
-            for (size_t t = 0; t < COUNT(tokens); t++)
-                if (status == JWT_OK)
-                    compare(&v, source, list[k], all_options[o], tokens[t], step);
-                else
-                    is("a token, where no verifier is made", accepts(source, list[k], all_options[o], tokens[t]), 0);
-            jwt_verifier_free(&v);
+            struct jwt_handle v[2] = {JWT_NONE, JWT_NONE};
+            uint32_t status = is_usable(k, o) ? JWT_OK : JWT_NO_USABLE_KEY;
+            is("made, or not", made_of(JWT_TEXT, lists[k].text, all_options[o].text, &v[0]), status);
+            is("with nothing prepared",
+               make(JWT_TEXT, lists[k].text, all_options[o].text, 0, JWT_PREPARE_NOTHING, &v[1]), status);
+            for (size_t t = 0; t < COUNT(tokens) && status == JWT_OK; t++) compare(v, k, o, t, step);
+            jwt_free(&v[0]), jwt_free(&v[1]);
         }
 }
 
-/* a secret decides as its JSON Web Key does */
+/* a secret decides as its JSON Web Key does, which is the first of the lists */
 static void secrets(size_t step) {
-    struct jwt_verifier v = JWT_VERIFIER_NONE;
-    is("made of a secret", make(OF_SECRET, "a secret of thirty-two characters", all_options[6], 0, false, &v), JWT_OK);
-    for (size_t t = 0; t < COUNT(tokens); t++) compare(&v, OF_KEY, HMAC_KEY, all_options[6], tokens[t], step);
-    jwt_verifier_free(&v);
+    struct jwt_handle v[2] = {JWT_NONE, JWT_NONE};
+    const char *options = all_options[6].text;
+    is("made of a secret", made_of(JWT_SECRET, "a secret of thirty-two characters", options, &v[0]), JWT_OK);
+    is("shared", jwt_share(&v[0], &v[1]), JWT_OK);
+    for (size_t t = 0; t < COUNT(tokens); t++) compare(v, 0, 6, t, step);
+    jwt_free(&v[0]), jwt_free(&v[1]);
 }
 
 /* ---- a large set */
@@ -411,13 +345,12 @@ static void large_set(size_t place, const char *other) {
         len += other ? sprintf(set + len, "%s\"},", other) : sprintf(set + len, "%08zu\"},", i);
     }
     len += sprintf(set + len, "%s]}", place < count ? P256_KEY : HMAC_KEY);
-    struct jwt_verifier v = JWT_VERIFIER_NONE;
-    is("10,001 keys", jwt_verifier_set(set, len, TEXT("{\"algorithms\":[\"HS256\",\"HS512\"]}"), 0, false, 0, &v),
-       JWT_OK);
+    struct jwt_handle v = JWT_NONE;
+    is("10,001 keys", made_of(JWT_TEXT, set, "{\"algorithms\":[\"HS256\",\"HS512\"]}", &v), JWT_OK);
     free(set);
     is("one of them", status(&v, BY_HS256), JWT_OK);
     is("another", status(&v, BY_RS256), JWT_NO_KEY);
-    jwt_verifier_free(&v);
+    jwt_free(&v);
 }
 
 static void large_sets(void) {
@@ -435,21 +368,21 @@ static int rounds = 300;
 /* Under a tool of valgrind, which does not know that the count of the shares is atomic, one thread frees at a time. */
 static pthread_mutex_t freeing = PTHREAD_MUTEX_INITIALIZER;
 
-static void release(struct jwt_verifier *verifier) {
+static void release(struct jwt_handle *verifier) {
     if (is_few) pthread_mutex_lock(&freeing);
-    jwt_verifier_free(verifier);
+    jwt_free(verifier);
     if (is_few) pthread_mutex_unlock(&freeing);
 }
 
 static void *many(void *arg) {
-    struct jwt_verifier *v = arg, more = JWT_VERIFIER_NONE;
+    struct jwt_handle *v = arg, more = JWT_NONE;
     long wrong = 0;
     for (int i = 0; i < rounds; i++) {
         struct answer a = decode(&v[0], TEXT(BY_HS256), LAST, ROOM);
         wrong += a.status != JWT_OK || a.last != LAST;
         wrong += i % 10 == 0 && status(&v[1], BY_RS256) != JWT_OK;
         wrong += status(&v[1], BY_HS256) != JWT_INVALID_ALGORITHM;
-        wrong += jwt_verifier_share(&v[0], &more) != JWT_OK || status(&more, BY_HS256) != JWT_OK;
+        wrong += jwt_share(&v[0], &more) != JWT_OK || status(&more, BY_HS256) != JWT_OK;
         release(&more);
     }
     release(&v[0]);
@@ -459,11 +392,11 @@ static void *many(void *arg) {
 
 static void threads(void) {
     pthread_t started[8];
-    struct jwt_verifier first[2] = {JWT_VERIFIER_NONE, JWT_VERIFIER_NONE}, each[8][2];
+    struct jwt_handle first[2] = {JWT_NONE, JWT_NONE}, each[8][2];
     memset(each, 0, sizeof each);
-    make(OF_SET, ALL_KEYS, HS256, 0, false, &first[0]);
-    make(OF_SET, ALL_KEYS, RS256, 0, false, &first[1]);
-    for (int i = 0; i < 16; i++) is("a share", jwt_verifier_share(&first[i % 2], &each[i / 2][i % 2]), JWT_OK);
+    made_of(JWT_TEXT, ALL_KEYS, HS256, &first[0]);
+    made_of(JWT_TEXT, ALL_KEYS, RS256, &first[1]);
+    for (int i = 0; i < 16; i++) is("a share", jwt_share(&first[i % 2], &each[i / 2][i % 2]), JWT_OK);
     release(&first[0]);
     for (int i = 0; i < 8; i++) pthread_create(&started[i], NULL, many, each[i]);
     release(&first[1]);
@@ -476,7 +409,7 @@ static void threads(void) {
 
 /* one verifier under a lock */
 static pthread_mutex_t lock = PTHREAD_MUTEX_INITIALIZER;
-static struct jwt_verifier locked;
+static struct jwt_handle locked;
 
 static void *one_by_one(void *wrong) {
     for (int i = 0; i < rounds; i++) {
@@ -490,48 +423,48 @@ static void *one_by_one(void *wrong) {
 static void under_a_lock(void) {
     pthread_t started[4];
     long wrong[4] = {0};
-    is("made", make(OF_KEY, HMAC_KEY, HS256, 0, false, &locked), JWT_OK);
+    is("made", made_of(JWT_TEXT, HMAC_KEY, HS256, &locked), JWT_OK);
     for (int i = 0; i < 4; i++) pthread_create(&started[i], NULL, one_by_one, &wrong[i]);
     for (int i = 0; i < 4; i++) {
         pthread_join(started[i], NULL);
         is("a thread under a lock", wrong[i], 0);
     }
-    jwt_verifier_free(&locked);
+    jwt_free(&locked);
 }
 
 /* ---- want of memory */
 
-static struct jwt_verifier shared_one;
+static struct jwt_handle shared_one;
 
-static uint32_t makes_of_set(struct jwt_verifier *v) {
-    return make(OF_SET, ALL_KEYS, RS256, 0, false, v);
+static uint32_t makes_of_set(struct jwt_handle *v) {
+    return made_of(JWT_TEXT, ALL_KEYS, RS256, v);
 }
-static uint32_t makes_of_key(struct jwt_verifier *v) {
-    return make(OF_KEY, ED_KEY, EDDSA, 0, false, v);
+static uint32_t makes_of_key(struct jwt_handle *v) {
+    return made_of(JWT_TEXT, ED_KEY, EDDSA, v);
 }
-static uint32_t makes_of_secret(struct jwt_verifier *v) {
-    return make(OF_SECRET, "s", HS256, 0, false, v);
+static uint32_t makes_of_secret(struct jwt_handle *v) {
+    return made_of(JWT_SECRET, "s", HS256, v);
 }
-static uint32_t shares(struct jwt_verifier *v) {
-    return jwt_verifier_share(&shared_one, v);
+static uint32_t shares(struct jwt_handle *v) {
+    return jwt_share(&shared_one, v);
 }
 
 /* how often the call was out of memory, until no request was left to refuse; -1 for another status, or if something is left */
-static long refused_in_turn(uint32_t (*call)(struct jwt_verifier *)) {
+static long refused_in_turn(uint32_t (*call)(struct jwt_handle *)) {
     for (long number = 1; number < 1000; number++) {
-        struct jwt_verifier v = JWT_VERIFIER_NONE;
+        struct jwt_handle v = JWT_NONE;
         requests = 0, refused_one = number;
         uint32_t status = call(&v);
         bool was_refused = requests >= number;
         refused_one = 0;
         if (status != (was_refused ? JWT_OUT_OF_MEMORY : JWT_OK) || (v.at != NULL) == was_refused) return -1;
-        jwt_verifier_free(&v);
+        jwt_free(&v);
         if (!was_refused) return number - 1;
     }
     return -1;
 }
 
-static long decoding_refused_in_turn(struct jwt_verifier *v, const char *token) {
+static long decoding_refused_in_turn(struct jwt_handle *v, const char *token) {
     for (long number = 1; number < 1000; number++) {
         requests = 0, refused_one = number;
         struct answer a = decode(v, TEXT(token), 0, ROOM);
@@ -550,12 +483,13 @@ static void refused_memory(void) {
     is("a key", refused_in_turn(makes_of_key) > 5, 1);
     is("a secret", refused_in_turn(makes_of_secret) > 3, 1);
     makes_of_set(&shared_one);
-    is("a share", refused_in_turn(shares), 1);
+    long shared = refused_in_turn(shares);
+    is("a share copies nothing", shared == 1 || shared == 2, 1);
     is("RS256", decoding_refused_in_turn(&shared_one, BY_RS256) > 10, 1);
-    jwt_verifier_free(&shared_one);
-    make(OF_KEY, HMAC_KEY, HS256, 0, false, &shared_one);
+    jwt_free(&shared_one);
+    made_of(JWT_TEXT, HMAC_KEY, HS256, &shared_one);
     is("HS256", decoding_refused_in_turn(&shared_one, BY_HS256) > 10, 1);
-    jwt_verifier_free(&shared_one);
+    jwt_free(&shared_one);
 }
 
 /* ---- members */
@@ -603,24 +537,17 @@ static void members(void) {
     is("what it needs", len == 7 && type == JWT_STRING, 1);
 }
 
-/* Verifies a token so many times, by a verifier or by the call that reads the set each time. Returns whether one of them is refused. */
-static int verify(const char *way, const char *set, const char *options, const char *token, int count) {
-    bool is_anew = strcmp(way, "anew") == 0;
-    struct jwt_verifier verifier = JWT_VERIFIER_NONE;
-    char room[ROOM];
-    size_t len;
-    uint64_t last;
-    uint32_t test, status = JWT_OK;
-    if (!is_anew) status = jwt_verifier_set(TEXT(set), TEXT(options), 0, false, strtoull(way, NULL, 10), &verifier);
-    for (; status == JWT_OK && count > 0; count--)
-        status = is_anew ? jwt_decode_set(TEXT(token), TEXT(set), TEXT(options), 1700000000, room, ROOM, &len)
-                         : jwt_verifier_decode(&verifier, TEXT(token), 1700000000, room, ROOM, &len, &last, &test);
-    jwt_verifier_free(&verifier);
+/* Verifies a token this many times by a verifier with at most this many bytes of prepared keys. Returns whether it is refused. */
+static int verify(const char *prepared, const char *set, const char *options, const char *token, int count) {
+    struct jwt_handle verifier = JWT_NONE;
+    uint32_t status = make(JWT_TEXT, set, options, 0, strtoull(prepared, NULL, 10), &verifier);
+    for (; status == JWT_OK && count > 0; count--) status = decode(&verifier, TEXT(token), 1700000000, ROOM).status;
+    jwt_free(&verifier);
     return status != JWT_OK;
 }
 
 int main(int argc, char **argv) {
-    /* anew, or the greatest number of bytes of prepared keys; SET OPTIONS TOKEN COUNT: for tests/programs/verified_once */
+    /* the greatest number of bytes of prepared keys, SET OPTIONS TOKEN COUNT: for tests/programs/verified_once */
     if (argc == 6) return verify(argv[1], argv[2], argv[3], argv[4], atoi(argv[5]));
     is_few = argc > 1 && strcmp(argv[1], "few") == 0;
     size_t step = is_few ? 400 : 23;
@@ -629,12 +556,11 @@ int main(int argc, char **argv) {
     slips();
     lengths();
     if (!is_few) {
-        compare_all(OF_SET, sets, COUNT(sets), step);
-        compare_all(OF_KEY, keys, COUNT(keys), step);
-        /* none is kept prepared, and as many as take no more than one of P-256 */
+        compare_all(step);
+        /* nothing is kept prepared, and as many keys as take no more than one of P-256 */
         for (size_t i = 0; i < 2; i++) {
             max_prepared = i ? 16384 : JWT_PREPARE_NOTHING;
-            compare_all(OF_SET, sets, COUNT(sets), 10 * step);
+            compare_all(10 * step);
         }
         max_prepared = 0;
         large_sets();

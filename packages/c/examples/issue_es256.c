@@ -33,16 +33,21 @@ static enum jwt_status issue(EVP_PKEY *key, const char *claims, char *token, siz
 
 /* Returns whether the claims that are read of the issued token, or the refusal's text, are these. */
 static bool says(EVP_PKEY *key, const char *claims, const char *wanted) {
-    char token[2048], jwk[1024], buffer[1024], *pem;
-    size_t token_len, jwk_len, len;
+    struct jwt_handle keys = JWT_NONE, verifier = JWT_NONE;
+    char token[2048], buffer[1024], *pem;
+    size_t token_len, len, items, kept;
+    uint64_t last;
+    uint32_t test;
     BIO *text = BIO_new(BIO_s_mem());
     PEM_write_bio_PUBKEY(text, key);
     size_t pem_len = (size_t)BIO_get_mem_data(text, &pem);
     enum jwt_status status = issue(key, claims, token, sizeof token, &token_len);
-    if (status == JWT_OK) status = jwt_key_from_pem(pem, pem_len, jwk, sizeof jwk, &jwk_len);
+    if (status == JWT_OK) status = jwt_keys_add(&keys, JWT_TEXT, (const uint8_t *)pem, pem_len, &items, &kept);
     if (status == JWT_OK)
-        status = jwt_decode_key(token, token_len, jwk, jwk_len, TEXT("{\"algorithms\":[\"ES256\"]}"), 0, buffer,
-                                sizeof buffer, &len);
+        status = jwt_verifier_new(&keys, TEXT("{\"algorithms\":[\"ES256\"]}"), 0, JWT_PREPARE_NOTHING, &verifier);
+    if (status == JWT_OK)
+        status = jwt_verifier_decode(&verifier, token, token_len, 0, buffer, sizeof buffer, &len, &last, &test);
+    jwt_free(&keys), jwt_free(&verifier);
     if (status != JWT_OK) jwt_text(JWT_OF_STATUS, status, buffer, sizeof buffer, &len);
     printf("%.*s\n", (int)len, buffer);
     BIO_free(text);

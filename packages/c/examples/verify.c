@@ -21,22 +21,23 @@ static void print_test(uint32_t test) {
         printf("the test %.*s failed\n", (int)len, name);
 }
 
-/* Returns whether the claims, or the refusal's text, are these. The length of the secret is tested here (RFC 7518 section 3.2); no
-   verifier is made of one with which anyone can sign. */
+/* Returns whether the claims, or the refusal's text, are these. The length of the secret is tested here (RFC 7518 section 3.2);
+   jwt_keys_add refuses a secret with which anyone can sign. */
 static bool says(const uint8_t *key, size_t key_len, uint64_t now, const char *wanted) {
-    struct jwt_verifier verifier = JWT_VERIFIER_NONE;
+    struct jwt_handle keys = JWT_NONE, verifier = JWT_NONE;
     char text[512];
-    size_t len;
+    size_t len, items, kept;
     uint64_t last;
     uint32_t test = 0;
     if (key_len < 32) {
         printf("the secret is too short for HS256\n");
         return strcmp(wanted, "too short") == 0;
     }
-    enum jwt_status status = jwt_verifier_secret(key, key_len, options, strlen(options), 0, false, 0, &verifier);
+    enum jwt_status status = jwt_keys_add(&keys, JWT_SECRET, key, key_len, &items, &kept);
+    if (status == JWT_OK) status = jwt_verifier_new(&keys, options, strlen(options), 0, 0, &verifier);
     if (status == JWT_OK)
         status = jwt_verifier_decode(&verifier, token, strlen(token), now, text, sizeof text, &len, &last, &test);
-    jwt_verifier_free(&verifier);
+    jwt_free(&keys), jwt_free(&verifier);
     print_test(test);
     if (status != JWT_OK) jwt_text(JWT_OF_STATUS, status, text, sizeof text, &len);
     printf("%.*s\n", (int)len, text);
