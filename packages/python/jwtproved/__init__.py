@@ -39,6 +39,7 @@ from .exceptions import (
     PyJWKSetError,
     PyJWTError,
     UnknownKeyError,
+    UnusableSetError,
 )
 
 if TYPE_CHECKING:
@@ -92,6 +93,7 @@ __all__ = [
     "SignedPart",
     "SigningInput",
     "UnknownKeyError",
+    "UnusableSetError",
     "Verifier",
     "decode",
     "decode_by_verdict",

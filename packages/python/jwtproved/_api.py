@@ -1,5 +1,4 @@
 """`encode`, `decode` and their like, by PyJWT's names."""
-import functools
 import json
 import warnings
 from collections.abc import Mapping
@@ -7,10 +6,10 @@ from typing import Any, Never
 
 from . import _refusals, _signing
 from ._encoding import members_of, payload_of, unsignable, written
-from ._keys import Key, PyJWK, SigningKey, bytes_of, is_private, material_known, material_of
-from ._library import ALGORITHMS, Refusal, algorithms_of, answer, check, library, number_of, slices
+from ._keys import Key, PyJWK, SigningKey, bytes_of, is_private, keys_known, keys_of, one_for
+from ._library import ALGORITHMS, Refusal, answer, check, library, number_of, slices
 from ._rules import DEFAULTS, Further, Moment, Names, Rules, arguments_of, check_keywords, exact_str, names_nearest, options_of, rules_of
-from ._status import Part, Status
+from ._status import Part
 from ._unverified import header_of, octets_of, part_of
 from ._verifier import Checker, Token, checker_of, complete, moment_of, token_of
 from .exceptions import DecodeError, InvalidAlgorithmError, InvalidKeyError, InvalidTokenError
@@ -58,7 +57,7 @@ def _call(
     a subclass may be equal to others.
     """
     kind = type(key)
-    known = key if kind is str or kind is bytes else material_known(key)
+    known = key if kind is str or kind is bytes else keys_known(key)
     if known is None or type(leeway) is not int:
         return None
     try:
@@ -81,7 +80,7 @@ def _checker(key: Key, rules: Rules) -> Checker:
     if not rules.algorithms:
         raise DecodeError('It is required that you pass in a value for the "algorithms" argument when calling decode().')
     try:
-        return checker_of(material_of(key), rules)
+        return checker_of(keys_of(key), rules)
     except InvalidKeyError as error:
         # the sender of the token may have chosen the key by its kid (PyJWKClient)
         if isinstance(key, PyJWK):
@@ -98,30 +97,19 @@ def _check_unused(verify: Any, detached_payload: Any, options: Any) -> None:
         warnings.warn(text, DeprecationWarning, stacklevel=3)
 
 
-@functools.cache
-def _of_secrets() -> tuple[str, ...]:
-    """Returns the algorithms of a secret. The library signs with no others."""
-    return algorithms_of(b'{"kty":"oct","k":"c2VjcmV0"}')
-
-
 def _by_secret(key: SigningKey, algorithm: str, header: bytes, claims: bytes) -> str:
     """Returns the token that the library signs with a secret, or with a JSON Web Key of one."""
     try:
-        material = material_of(key)
+        keys = keys_of(key)
     except (InvalidKeyError, TypeError):
         if is_private(key) or isinstance(key, (str, bytes, bytearray, memoryview)) and b"PRIVATE KEY-----" in bytes_of("key", key):
             why = f'{algorithm} signs with a secret, and this is a private key: give its algorithm, such as algorithm="RS256"'
             raise InvalidKeyError(why) from None
         raise
-    no_secret = InvalidKeyError(f"the key is not a secret, and {algorithm} signs with one")
-    if material.kind == "set" or material.algorithm not in (None, algorithm):
-        raise no_secret
-    call = library.jwt_encode_hmac if material.kind == "secret" else library.jwt_encode_key
+    call = library.jwt_encode_hmac if keys.is_secret else library.jwt_encode_key
     try:
-        return str(answer(call, *slices(header, claims, material.text)), "utf-8")
+        return str(answer(call, *slices(header, claims, one_for(keys, algorithm).text())), "utf-8")
     except Refusal as refusal:
-        if refusal.status == Status.INVALID_KEY_FORMAT:
-            raise no_secret from None
         raise unsignable(refusal, claims) from None
 
 
@@ -244,9 +232,9 @@ class PyJWT:
             raise NotImplementedError(f"algorithm is {named!r}, which is not one of {', '.join(ALGORITHMS)}")
         header = written("headers", members, json_encoder)
         named = exact_str(named)
-        if named not in _of_secrets():
-            return _signing.signer_of(key, named).token(header, claims)
-        return _by_secret(key, named, header, claims)
+        if named.startswith("HS"):
+            return _by_secret(key, named, header, claims)
+        return _signing.signer_of(key, named).token(header, claims)
 
 
 def get_unverified_header(jwt: Token) -> dict[str, Any]:

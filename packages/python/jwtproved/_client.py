@@ -16,7 +16,7 @@ from ._keys import PyJWK, PyJWKSet
 from ._library import no_fork
 from ._refusals import unknown
 from ._rules import exact_str, names_nearest, wrong_type
-from .exceptions import PyJWKClientConnectionError, PyJWKClientError
+from .exceptions import PyJWKClientConnectionError, PyJWKClientError, PyJWKSetError, UnusableSetError
 
 if TYPE_CHECKING:
     from concurrent.futures import Future
@@ -24,7 +24,7 @@ if TYPE_CHECKING:
 _clock = time.monotonic
 # of a timeout, in seconds
 _LONGEST = 86400
-# of the keys of a set that is fetched, since each is read by itself
+# of the keys of a set that is fetched
 _MOST_KEYS = 1000
 _NO_SIGNING_KEYS = "The JWKS endpoint did not contain any signing keys"
 # a name and a value of a header (RFC 9110 sections 5.1 and 5.5)
@@ -92,7 +92,10 @@ def _set_of(data: Any) -> PyJWKSet:
     keys = data.get("keys")
     if isinstance(keys, list) and len(keys) > _MOST_KEYS:
         raise PyJWKClientError(f"The JWKS endpoint returned more than {_MOST_KEYS} keys")
-    return PyJWKSet.from_dict(data)
+    try:
+        return PyJWKSet.from_dict(data)
+    except PyJWKSetError as error:
+        raise UnusableSetError(f"{_NO_SIGNING_KEYS}: {error}") from None
 
 
 class _Sets:
@@ -109,8 +112,8 @@ class _Sets:
             self._until = -math.inf
             return
         found = jwk_set if isinstance(jwk_set, PyJWKSet) else _set_of(jwk_set)
-        # a set without a key that signs replaces none that has one
-        if found._signing or self.last is None or not self.last._signing:
+        # a set with which no token can be verified replaces none of the others
+        if found._keys.is_usable or self.last is None or not self.last._keys.is_usable:
             self.last, self._until = found, _clock() + self._lifespan
 
     def get(self) -> PyJWKSet | None:
@@ -227,7 +230,7 @@ class PyJWKClient:
         return self._fetched() if kept.last is None else self._renewed(kept, kept.last)
 
     def get_signing_keys(self, refresh: bool = False) -> list[PyJWK]:
-        """Returns the keys of the set that have a `kid`, and whose `use` is `sig` or missing. Raises PyJWKClientError if none has."""
+        """Returns the keys of the set that have a `kid`. Raises PyJWKClientError if none has."""
         found = self.get_jwk_set(refresh)._signing
         if not found:
             raise PyJWKClientError(_NO_SIGNING_KEYS)
@@ -378,12 +381,12 @@ class PyJWKClient:
             if self._under_way is under_way:
                 self._under_way = None
             self._failure = None
-            if found is None or not found._signing:
+            if found is None or not found._keys.is_usable:
                 self._failure = _NO_SIGNING_KEYS if error is None else f"{error}" or type(error).__name__
                 self._renew_from = _clock() + self._pause
             if found is not None and self.jwk_set_cache is not None:
                 self.jwk_set_cache.put(found)
-            if found is not None and found._signing and self._keys is not None:
+            if found is not None and found._keys.is_usable and self._keys is not None:
                 self._keys.renew(found)
 
     def _after_fork(self) -> None:

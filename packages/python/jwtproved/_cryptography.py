@@ -1,6 +1,6 @@
 """Private keys of the package cryptography. It is imported once a key needs it, which takes long.
 
-The library reads public keys alone: it tells of which kind a JSON Web Key is, and what more a private one has is read and written here.
+The library reads public keys alone: it tells for which algorithms a key is, and what more a private one has is read and written here.
 """
 import base64
 import functools
@@ -8,8 +8,8 @@ import json
 import re
 from typing import Any
 
-from ._keys import is_private, material_of_public
-from ._library import Refusal, algorithms_of, before_fork, no_fork, text_of
+from ._keys import is_private, keys_of_public
+from ._library import before_fork, no_fork
 from ._rules import Call
 from .exceptions import InvalidKeyError
 
@@ -115,26 +115,18 @@ def _okp(jwk: dict[str, Any]) -> Any:
     return ed25519.Ed25519PrivateKey.from_private_bytes(octets(jwk, "d"))
 
 
-# by an algorithm that the key serves
-_READERS = {"RS256": _rsa, "ES256": _p256, "ES384": _p384, "EdDSA": _okp}
-
-
-def served(jwk: dict[str, Any]) -> tuple[str, ...]:
-    """Returns the algorithms that a JSON Web Key serves. Raises InvalidKeyError if the library can't read its public members."""
-    try:
-        return algorithms_of(json.dumps(jwk).encode())
-    except Refusal as refusal:
-        raise InvalidKeyError(f"the key can't be read: {text_of(refusal.status)}") from None
+# by an algorithm that the key is for
+_READERS = {**{f"{kind}{bits}": _rsa for kind in ("RS", "PS") for bits in (256, 384, 512)}, "ES256": _p256, "ES384": _p384, "EdDSA": _okp}
 
 
 @_without_forks
-def of_jwk(jwk: dict[str, Any]) -> Any:
-    """Returns the private key of a JSON Web Key that has d (RFC 7518 section 6, RFC 8037 section 2), and of another one the public key."""
-    reader = next((_READERS[it] for it in served(jwk) if it in _READERS), None)
-    if reader is None:
-        raise InvalidKeyError("no token is signed or verified with a key of this kind, of this curve or of so few bits")
+def of_jwk(jwk: dict[str, Any], algorithm: str) -> Any:
+    """Returns the private key of a JSON Web Key that has d (RFC 7518 section 6, RFC 8037 section 2), and of another one the public key.
+
+    The algorithm is one that the key is for.
+    """
     try:
-        return reader(jwk)
+        return _READERS[algorithm](jwk)
     except ValueError:
         # the text of the exception may show the key
         raise InvalidKeyError("the numbers of the key do not fit each other") from None
@@ -211,7 +203,7 @@ def jwk_of(key: Any) -> dict[str, Any]:
     public = key.public_key() if is_private(key) else key
     if not hasattr(public, "public_bytes"):
         raise InvalidKeyError("Not a public or private key")
-    found: dict[str, Any] = json.loads(material_of_public(public).text)
+    found: dict[str, Any] = json.loads(keys_of_public(public).text())
     if is_private(key):
         return {**found, **_secret_of(key)}
     # as PyJWT writes it

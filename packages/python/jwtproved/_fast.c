@@ -1,6 +1,6 @@
 /*
  * The calls that _handles.py names, without ctypes, which passes the arguments of a call in about as long as the library
- * needs for the token. Each is made, shared and freed with the interpreter's lock held; a call that verifies takes one out of the idle
+ * needs for the token. Each is shared and freed with the interpreter's lock held; a call that verifies takes one out of the idle
  * ones, so that none is in two calls at once when the lock is released.
  */
 #define PY_SSIZE_T_CLEAN
@@ -26,19 +26,18 @@ __asm__(".symver dlerror, dlerror@GLIBC_2.2.5");
 
 /* The library, and the exception for its refusals. */
 struct state {
-    __typeof__(&jwt_verifier_secret) make_of_secret;
-    __typeof__(&jwt_verifier_key) make_of_key, make_of_set;
-    __typeof__(&jwt_verifier_share) share;
+    __typeof__(&jwt_verifier_new) make;
+    __typeof__(&jwt_share) share;
     __typeof__(&jwt_verifier_decode) decode;
-    __typeof__(&jwt_verifier_free) free;
+    __typeof__(&jwt_free) free;
     __typeof__(&jwt_check_issued_at) check_issued_at;
     PyObject *refusal;
 };
 
 typedef struct {
     PyObject_HEAD struct state *state;
-    struct jwt_verifier first;
-    struct jwt_verifier idle[IDLE];
+    struct jwt_handle first;
+    struct jwt_handle idle[IDLE];
     size_t idle_count;
     int is_of_secret;
 } Handles;
@@ -58,29 +57,42 @@ static void refuse(const struct state *state, uint32_t status, uint32_t test) {
     }
 }
 
-/* The texts of a verifier that is to be made. */
+/* What a verifier is to be made of. The struct jwt_handle of the keys is the buffer of a ctypes.Structure. */
 struct making {
-    const char *kind, *key, *options;
-    Py_ssize_t key_len, options_len, longest, prepared;
+    Py_buffer keys;
+    const char *options;
+    Py_ssize_t options_len, longest, prepared;
+    int is_of_secret;
 };
 
-static enum jwt_status make(const struct state *state, const struct making *it, struct jwt_verifier *made) {
-    if (strcmp(it->kind, "secret") == 0) {
-        return state->make_of_secret((const uint8_t *)it->key, (size_t)it->key_len, it->options,
-                                     (size_t)it->options_len, (size_t)it->longest, false, (size_t)it->prepared, made);
+static Handles *make(PyTypeObject *type, struct state *state, const struct making *it) {
+    Handles *self = (Handles *)PyType_GenericAlloc(type, 0);
+    PyThreadState *thread;
+    uint32_t status;
+
+    if (self == NULL) {
+        return NULL;
     }
-    return (strcmp(it->kind, "key") == 0 ? state->make_of_key : state->make_of_set)(
-        it->key, (size_t)it->key_len, it->options, (size_t)it->options_len, (size_t)it->longest, false,
-        (size_t)it->prepared, made);
+    self->state = state;
+    self->is_of_secret = it->is_of_secret;
+    /* other threads go on while keys are prepared */
+    thread = PyEval_SaveThread();
+    status = state->make(it->keys.buf, it->options, (size_t)it->options_len, (size_t)it->longest, (size_t)it->prepared,
+                         &self->first);
+    PyEval_RestoreThread(thread);
+    if (status != JWT_OK) {
+        refuse(state, status, 0);
+        Py_DECREF(self);
+        return NULL;
+    }
+    return self;
 }
 
-/* Handles(kind, key, options, longest=0, prepared=0): raises Refusal if the library makes no verifier. */
+/* Handles(keys, options, longest=0, prepared=0, is_of_secret=False): raises Refusal if the library makes no verifier. */
 static PyObject *handles_new(PyTypeObject *type, PyObject *arguments, PyObject *names) {
     struct state *state = PyType_GetModuleState(type);
     struct making it = {0};
-    PyThreadState *thread;
-    Handles *self;
-    uint32_t status;
+    Handles *self = NULL;
 
     if (state == NULL || state->decode == NULL) {
         PyErr_SetString(PyExc_RuntimeError, "the library is not bound");
@@ -90,25 +102,16 @@ static PyObject *handles_new(PyTypeObject *type, PyObject *arguments, PyObject *
         PyErr_SetString(PyExc_TypeError, "Handles takes no keyword arguments");
         return NULL;
     }
-    if (!PyArg_ParseTuple(arguments, "sy#y#|nn", &it.kind, &it.key, &it.key_len, &it.options, &it.options_len,
-                          &it.longest, &it.prepared)) {
+    if (!PyArg_ParseTuple(arguments, "w*y#|nnp", &it.keys, &it.options, &it.options_len, &it.longest, &it.prepared,
+                          &it.is_of_secret)) {
         return NULL;
     }
-    self = (Handles *)PyType_GenericAlloc(type, 0);
-    if (self == NULL) {
-        return NULL;
+    if (it.keys.len == sizeof(struct jwt_handle)) {
+        self = make(type, state, &it);
+    } else {
+        PyErr_SetString(PyExc_TypeError, "Handles takes a handle of keys");
     }
-    self->state = state;
-    self->is_of_secret = strcmp(it.kind, "secret") == 0;
-    /* other threads go on while keys are prepared */
-    thread = PyEval_SaveThread();
-    status = make(state, &it, &self->first);
-    PyEval_RestoreThread(thread);
-    if (status != JWT_OK) {
-        refuse(state, status, 0);
-        Py_DECREF(self);
-        return NULL;
-    }
+    PyBuffer_Release(&it.keys);
     return (PyObject *)self;
 }
 
@@ -125,7 +128,7 @@ static void handles_dealloc(PyObject *object) {
 }
 
 /* Moves an idle handle to *taken, or shares another one. */
-static uint32_t take(Handles *self, struct jwt_verifier *taken) {
+static uint32_t take(Handles *self, struct jwt_handle *taken) {
     if (self->idle_count > 0) {
         *taken = self->idle[--self->idle_count];
         return JWT_OK;
@@ -133,7 +136,7 @@ static uint32_t take(Handles *self, struct jwt_verifier *taken) {
     return self->state->share(&self->first, taken);
 }
 
-static void give_back(Handles *self, struct jwt_verifier *taken) {
+static void give_back(Handles *self, struct jwt_handle *taken) {
     if (self->idle_count < IDLE) {
         self->idle[self->idle_count++] = *taken;
     } else {
@@ -151,7 +154,7 @@ struct verification {
     uint32_t status, test;
 };
 
-static void verify(Handles *self, struct jwt_verifier *handle, struct verification *it) {
+static void verify(Handles *self, struct jwt_handle *handle, struct verification *it) {
     PyThreadState *thread = NULL;
     uint64_t last;
 
@@ -166,7 +169,7 @@ static void verify(Handles *self, struct jwt_verifier *handle, struct verificati
 }
 
 /* Verifies again with the room that the claims need. */
-static PyObject *claims_of_long(Handles *self, struct jwt_verifier *handle, struct verification *it) {
+static PyObject *claims_of_long(Handles *self, struct jwt_handle *handle, struct verification *it) {
     PyObject *claims = NULL;
 
     it->room_len = it->len;
@@ -184,7 +187,7 @@ static PyObject *claims_of_long(Handles *self, struct jwt_verifier *handle, stru
     return claims;
 }
 
-static PyObject *claims_of(Handles *self, struct jwt_verifier *handle, struct verification *it) {
+static PyObject *claims_of(Handles *self, struct jwt_handle *handle, struct verification *it) {
     verify(self, handle, it);
     if (it->status == JWT_BUFFER_TOO_SMALL) {
         return claims_of_long(self, handle, it);
@@ -199,7 +202,7 @@ static PyObject *claims_of(Handles *self, struct jwt_verifier *handle, struct ve
 /* decode(token, now): returns the claims as JSON, or raises Refusal or MemoryError. */
 static PyObject *handles_decode(PyObject *object, PyObject *const *arguments, Py_ssize_t count) {
     Handles *self = (Handles *)object;
-    struct jwt_verifier handle = JWT_VERIFIER_NONE;
+    struct jwt_handle handle = JWT_NONE;
     struct verification it = {0};
     char room[ROOM], *token;
     Py_ssize_t token_len;
@@ -272,10 +275,8 @@ static PyObject *bind(PyObject *module, PyObject *arguments) {
         PyErr_SetString(PyExc_ImportError, dlerror());
         return NULL;
     }
-    if (find(library, "jwt_verifier_secret", &state->make_of_secret) ||
-        find(library, "jwt_verifier_key", &state->make_of_key) ||
-        find(library, "jwt_verifier_set", &state->make_of_set) || find(library, "jwt_verifier_share", &state->share) ||
-        find(library, "jwt_verifier_free", &state->free) || find(library, "jwt_verifier_decode", &state->decode) ||
+    if (find(library, "jwt_verifier_new", &state->make) || find(library, "jwt_share", &state->share) ||
+        find(library, "jwt_free", &state->free) || find(library, "jwt_verifier_decode", &state->decode) ||
         find(library, "jwt_check_issued_at", &state->check_issued_at)) {
         return NULL;
     }

@@ -7,7 +7,7 @@ import threading
 from collections.abc import Callable, Iterator
 from typing import Any
 
-from ._status import Of, Status
+from ._status import Of, Source, Status
 
 # the most bytes of prepared keys: the library's default, a bound for sets in `decode`, since fetched sets may have many keys, and so few
 # that no key is prepared, for one token
@@ -32,29 +32,37 @@ _FILE = "libjwtproved.so"
 PATH = os.environ.get("JWTPROVED_LIBRARY") or os.path.join(os.path.dirname(os.path.abspath(__file__)), _FILE)
 
 
-class Handle(ctypes.Structure):
-    """A struct jwt_verifier."""
+class _Handle(ctypes.Structure):
+    """A struct jwt_handle."""
 
     _fields_ = [("at", ctypes.c_void_p)]
+
+
+class _Info(ctypes.Structure):
+    """A struct jwt_key_info."""
+
+    _fields_ = [("status", ctypes.c_uint32), ("verifies", ctypes.c_uint32), ("signs", ctypes.c_uint32)]
 
 
 _BYTES = [ctypes.c_char_p, ctypes.c_size_t]
 _BUFFER = [ctypes.c_char_p, ctypes.c_size_t, ctypes.POINTER(ctypes.c_size_t)]
 _NUMBER = ctypes.POINTER(ctypes.c_uint32)
-_HANDLE = ctypes.POINTER(Handle)
-_MAKE = [*_BYTES, *_BYTES, ctypes.c_size_t, ctypes.c_bool, ctypes.c_size_t, _HANDLE]
+_HANDLE = ctypes.POINTER(_Handle)
+_SIZE = ctypes.POINTER(ctypes.c_size_t)
+_ALL = ctypes.c_size_t(-1).value
 _PROTOTYPES: dict[str, list[Any]] = {
-    "jwt_verifier_secret": _MAKE,
-    "jwt_verifier_key": _MAKE,
-    "jwt_verifier_set": _MAKE,
-    "jwt_verifier_share": [_HANDLE, _HANDLE],
+    "jwt_keys_add": [_HANDLE, ctypes.c_uint32, *_BYTES, _SIZE, _SIZE],
+    "jwt_keys_info": [_HANDLE, ctypes.c_size_t, ctypes.POINTER(_Info)],
+    "jwt_keys_text": [_HANDLE, ctypes.c_size_t, *_BUFFER],
+    "jwt_thumbprint": [_HANDLE, ctypes.c_size_t, ctypes.c_uint32, *_BUFFER],
+    "jwt_share": [_HANDLE, _HANDLE],
+    "jwt_free": [_HANDLE],
+    "jwt_verifier_new": [_HANDLE, *_BYTES, ctypes.c_size_t, ctypes.c_size_t, _HANDLE],
     "jwt_verifier_decode": [_HANDLE, *_BYTES, ctypes.c_uint64, *_BUFFER, ctypes.POINTER(ctypes.c_uint64), _NUMBER],
-    "jwt_verifier_free": [_HANDLE],
     "jwt_decode_verdict": [*_BYTES, ctypes.c_uint32, *_BYTES, *_BYTES, ctypes.c_bool, *_BYTES, ctypes.c_uint64, *_BUFFER],
     "jwt_signed_part": [*_BYTES, _NUMBER, ctypes.POINTER(ctypes.c_size_t), *_BUFFER],
     "jwt_verify_signature_hmac": [*_BYTES, *_BYTES, *_BYTES, ctypes.c_uint32],
     "jwt_verify_signature_key": [*_BYTES, *_BYTES, *_BYTES, ctypes.c_uint32],
-    "jwt_key_algorithms": [*_BYTES, _NUMBER],
     "jwt_unverified": [*_BYTES, ctypes.c_uint32, *_BUFFER],
     "jwt_check_claims": [*_BYTES, *_BYTES, ctypes.c_uint64],
     "jwt_encode_hmac": [*_BYTES, *_BYTES, *_BYTES, *_BUFFER],
@@ -62,12 +70,7 @@ _PROTOTYPES: dict[str, list[Any]] = {
     "jwt_signing_input": [*_BYTES, *_BYTES, _NUMBER, *_BUFFER],
     "jwt_encode_signature": [*_BYTES, *_BYTES, ctypes.c_uint32, *_BYTES, *_BYTES, *_BUFFER],
     "jwt_ecdsa_signature": [*_BYTES, ctypes.c_uint32, *_BUFFER],
-    "jwt_thumbprint": [*_BYTES, ctypes.c_uint32, *_BUFFER],
-    "jwt_key_from_pem": [*_BYTES, *_BUFFER],
     "jwt_check_issued_at": [ctypes.c_uint64] * 3,
-    "jwt_check_secret": _BYTES,
-    "jwt_check_key": _BYTES,
-    "jwt_check_set": _BYTES,
     "jwt_algorithm": _BYTES,
     "jwt_text": [ctypes.c_uint32, ctypes.c_uint32, *_BUFFER],
 }
@@ -80,7 +83,7 @@ def _load() -> ctypes.CDLL:
         for name, types in _PROTOTYPES.items():
             call = getattr(found, name)
             call.argtypes, call.restype = types, ctypes.c_uint32
-        found.jwt_verifier_free.restype = None
+        found.jwt_free.restype = None
     except (OSError, AttributeError) as error:
         raise ImportError(
             f"the shared library of jwtproved is missing: {error}. `pip install ./packages/python` in a checkout of its repository builds it"
@@ -90,6 +93,13 @@ def _load() -> ctypes.CDLL:
 
 
 library = _load()
+
+
+class Handle(_Handle):
+    """A handle of keys or of a verifier, which is freed with the object."""
+
+    def __del__(self, free: Any = library.jwt_free) -> None:
+        free(self)
 
 
 class Refusal(Exception):
@@ -158,11 +168,56 @@ def number_of(algorithm: str) -> int:
     return int(library.jwt_algorithm(*slices(str.encode(algorithm, "utf-8", "surrogatepass"))))
 
 
-def algorithms_of(key: bytes) -> tuple[str, ...]:
-    """Returns the algorithms of a JSON Web Key. Raises Refusal if the library can't read the key."""
-    bits = ctypes.c_uint32()
-    check(library.jwt_key_algorithms(*slices(key), ctypes.byref(bits)))
-    return tuple(name for number, name in enumerate(ALGORITHMS, 1) if bits.value >> number & 1)
+@functools.cache
+def _names_of(bits: int) -> tuple[str, ...]:
+    return tuple(name for number, name in enumerate(ALGORITHMS, 1) if bits >> number & 1)
+
+
+class Keys:
+    """A secret, a key or the items of a set, which the library has read once. Any number of threads may use it.
+
+    `given` is what was read. For each item `statuses` has JWT_OK, or why the library skips it, and `verifies` the algorithms that
+    verify with it. `is_usable` tells whether a token can be verified with all of them, of a set by the kid. `skipped` tells users of a
+    set which items are skipped, and why.
+    """
+
+    def __init__(self, source: Source, given: bytes) -> None:
+        """Raises Refusal, or MemoryError."""
+        self.is_secret, self.given, self.is_set, self.skipped = source == Source.SECRET, given, source == Source.SET, ""
+        self._text = given if self.is_secret else None
+        self._handle = Handle()
+        items, kept, info = ctypes.c_size_t(), ctypes.c_size_t(), _Info()
+        check(library.jwt_keys_add(self._handle, source, *slices(given), items, kept))
+        self.statuses: list[int] = []
+        self.verifies: list[tuple[str, ...]] = []
+        for at in range(items.value):
+            check(library.jwt_keys_info(self._handle, at, info))
+            self.statuses.append(info.status)
+            self.verifies.append(_names_of(info.verifies))
+        check(library.jwt_keys_info(self._handle, _ALL, info))
+        self.is_usable = info.verifies != 0
+
+    # No handle may be in two calls at once. So each call with the handle of the keys holds the lock, and is short: a verifier, which may
+    # take long to make, is made of a copy.
+
+    def copy(self) -> Handle:
+        """Returns a handle of the same keys for one caller."""
+        made = Handle()
+        with no_fork:
+            check(library.jwt_share(self._handle, made))
+        return made
+
+    def text(self) -> bytes:
+        """Returns one key as the calls for a signature take it: the bytes of a secret, and else a JSON Web Key."""
+        if self._text is None:
+            with no_fork:
+                self._text = answer(library.jwt_keys_text, self._handle, 0)
+        return self._text
+
+    def thumbprint(self, bits: int) -> str:
+        """Returns the thumbprint (RFC 7638) of the first item. Raises Refusal."""
+        with no_fork:
+            return str(answer(library.jwt_thumbprint, self._handle, 0, bits), "utf-8")
 
 
 def parts(token: bytes) -> tuple[str, bytes, bytes]:

@@ -3,7 +3,7 @@ import json
 from typing import Any
 
 from . import exceptions
-from ._library import Refusal, test_of, text_of
+from ._library import Keys, Refusal, test_of, text_of
 from ._status import Status
 from ._unverified import header_of
 
@@ -13,9 +13,8 @@ BAD_CRIT = "the header's crit names what is not understood"
 _EXCEPTIONS: dict[int, tuple[type[Exception], str]] = {
     Status.INVALID_TOKEN: (exceptions.DecodeError, "Not enough segments"),
     Status.INVALID_SIGNATURE: (exceptions.InvalidSignatureError, "Signature verification failed"),
-    # the header names the key of a set, so that these refuse a token as another alg does
-    Status.UNSUPPORTED_ALGORITHM: (exceptions.InvalidAlgorithmError, "no token is verified with the key that the kid names"),
-    Status.INVALID_KEY_FORMAT: (exceptions.InvalidAlgorithmError, "the key that the kid names is for other algorithms, or does not serve"),
+    # the header names the key of a set, so that this refuses a token as another alg does
+    Status.INVALID_KEY_FORMAT: (exceptions.InvalidAlgorithmError, "the key that the kid names is for other algorithms"),
     Status.EXPIRED_SIGNATURE: (exceptions.ExpiredSignatureError, "Signature has expired"),
     Status.INVALID_ISSUER: (exceptions.InvalidIssuerError, "Invalid issuer"),
     Status.INVALID_AUDIENCE: (exceptions.InvalidAudienceError, "Invalid audience"),
@@ -83,12 +82,11 @@ def exception_of(refusal: Refusal, token: bytes, is_of_claims: bool = False, unl
     return error
 
 
-def exception_of_making(refusal: Refusal, is_set: bool, algorithms: tuple[str, ...]) -> Exception:
-    """Returns the exception for a key, or a set of keys, and options with these algorithms, if the library does not make a verifier."""
-    if refusal.status == Status.BAD_OPTIONS:
+def exception_of_making(refusal: Refusal, keys: Keys, algorithms: tuple[str, ...]) -> Exception:
+    """Returns the exception for keys and options with these algorithms, if the library does not make a verifier."""
+    if refusal.status != Status.NO_USABLE_KEY:
         return _exception_of(refusal.status, False, b"")
-    if refusal.status == Status.NO_USABLE_KEY:
-        which, each = ("no key of the set fits", "each has no kid, or") if is_set else ("the key does not fit", "it")
-        names = ", ".join(algorithms)
-        return exceptions.InvalidKeyError(f"{which} the algorithms {names}: {each} is of another type, for another alg, or too weak")
-    return exceptions.InvalidKeyError(f"the key can't be read, or anyone can sign for it: {text_of(refusal.status)}")
+    which, each = ("no key of the set fits", "each has no kid, or") if keys.is_set else ("the key does not fit", "it")
+    skipped = f"; {keys.skipped}" if keys.skipped else ""
+    names = ", ".join(algorithms)
+    return exceptions.InvalidKeyError(f"{which} the algorithms {names}: {each} is of another type, or for another alg{skipped}")

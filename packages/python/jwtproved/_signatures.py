@@ -6,12 +6,11 @@ from typing import Any, NamedTuple
 
 from . import _refusals
 from ._encoding import header_of, payload_of, unsignable
-from ._keys import Key, Material, bytes_of, material_of, raw_of
-from ._library import ALGORITHMS, Refusal, answer, check, library, number_of, parts, slices, text_of
+from ._keys import Key, bytes_of, keys_of, one_for, raw_of
+from ._library import ALGORITHMS, Keys, Refusal, answer, check, library, number_of, parts, slices
 from ._rules import Further, Moment, Names, Rules, exact_str, names_nearest, options_of, rules_of, wrong_type
 from ._status import Status
 from ._verifier import Token, moment_of, token_of
-from .exceptions import InvalidKeyError
 from .types import Listed, Options
 
 
@@ -94,21 +93,17 @@ def verify(message: str | bytes | bytearray | memoryview, signature: bytes, key:
     A signature with ES256 or ES384 is two numbers one after the other, which `ecdsa_signature` makes of one in DER.
     """
     asked = bytes_of("message", message), raw_of("signature", signature)
-    return is_signed(*asked, material_of(key), exact_str(_algorithm("algorithm", algorithm)))
+    return is_signed(*asked, keys_of(key), exact_str(_algorithm("algorithm", algorithm)))
 
 
-def is_signed(message: bytes, signature: bytes, material: Material, algorithm: str) -> bool:
-    """Returns whether the library accepts a signature of a message. Raises InvalidKeyError if the key does not serve the algorithm."""
-    if material.kind == "set":
-        raise InvalidKeyError("the key is a set, and a signature is verified with one key")
-    if material.algorithm not in (None, algorithm):
-        raise InvalidKeyError(f"the key is for {material.algorithm} by its alg, and not for {algorithm}")
-    call = library.jwt_verify_signature_hmac if material.kind == "secret" else library.jwt_verify_signature_key
+def is_signed(message: bytes, signature: bytes, keys: Keys, algorithm: str) -> bool:
+    """Returns whether the library accepts a signature of a message. Raises InvalidKeyError if the key is not for the algorithm."""
+    call = library.jwt_verify_signature_hmac if keys.is_secret else library.jwt_verify_signature_key
     try:
-        check(call(*slices(message, signature, material.text), number_of(algorithm)))
+        check(call(*slices(message, signature, one_for(keys, algorithm).text()), number_of(algorithm)))
     except Refusal as refusal:
         if refusal.status != Status.INVALID_SIGNATURE:
-            raise InvalidKeyError(f"the key is not for {algorithm}, or does not serve: {text_of(refusal.status)}") from None
+            raise
         return False
     return True
 

@@ -7,8 +7,8 @@ from typing import Any
 
 from . import _cryptography
 from ._encoding import unsignable
-from ._keys import Material, PyJWK, PyJWKSet, bytes_of, is_of_cryptography, is_private, material_of, material_of_public
-from ._library import Refusal, algorithms_of, answer, library, no_fork, number_of, slices
+from ._keys import PyJWK, PyJWKSet, bytes_of, is_of_cryptography, is_private, keys_of, keys_of_public, one_for
+from ._library import Keys, Refusal, answer, library, no_fork, number_of, slices
 from ._rules import wrong_type
 from ._signatures import ecdsa_signature, is_signed
 from .exceptions import InvalidKeyError
@@ -62,14 +62,10 @@ def pkcs1_signs(private: Any, digest: Any) -> Callable[[bytes], bytes]:
 
 
 class Signer:
-    """A private key for one algorithm, and its public half as the library reads it."""
+    """A private key for one algorithm, and its public half as the library has read it."""
 
-    def __init__(self, private: Any, public: Material, algorithm: str) -> None:
-        self._public, self._algorithm = public, algorithm
-        if algorithm not in algorithms_of(public.text):
-            size = f" of {private.key_size} bits" if hasattr(private, "key_size") else ""
-            why = f"{algorithm} does not sign with this key, {type(private).__name__.strip('_')}{size}"
-            raise InvalidKeyError(f"{why}: a key of RSA has at least 2048 bits, and each other algorithm has a curve of its own")
+    def __init__(self, private: Any, public: Keys, algorithm: str) -> None:
+        self._public, self._algorithm = one_for(public, algorithm), algorithm
         self._signs = signs(private, algorithm)
 
     def token(self, header: bytes, claims: bytes) -> str:
@@ -97,19 +93,15 @@ def _of_pem(text: bytes, algorithm: str) -> Signer:
 
 @functools.lru_cache(maxsize=64)
 def _of_object(private: Any, algorithm: str) -> Signer:
-    return Signer(private, material_of_public(private.public_key()), algorithm)
+    return Signer(private, keys_of_public(private.public_key()), algorithm)
 
 
 @functools.lru_cache(maxsize=64)
-def _of_jwk(material: Material, algorithm: str) -> Signer:
-    if material.kind == "set":
-        raise InvalidKeyError("the key is a set, and a token is signed with one key")
-    found = json.loads(material.text)
-    if material.algorithm not in (None, algorithm):
-        raise InvalidKeyError(f"the key is for {material.algorithm} by its alg, and not for {algorithm}")
+def _of_jwk(keys: Keys, algorithm: str) -> Signer:
+    found = json.loads(one_for(keys, algorithm).given)
     if "d" not in found:
         raise InvalidKeyError(f"the key is not private, and {algorithm} signs with the private one")
-    return Signer(_cryptography.of_jwk(found), material, algorithm)
+    return Signer(_cryptography.of_jwk(found, algorithm), keys, algorithm)
 
 
 def signer_of(key: Any, algorithm: str) -> Signer:
@@ -121,7 +113,7 @@ def signer_of(key: Any, algorithm: str) -> Signer:
             raise InvalidKeyError(f"the key is not a private key in PEM, and {algorithm} signs with one")
         return _of_pem(text, algorithm)
     if isinstance(key, (dict, PyJWK, PyJWKSet)):
-        return _of_jwk(material_of(key), algorithm)
+        return _of_jwk(keys_of(key), algorithm)
     if is_private(key):
         return _of_object(key, algorithm)
     if hasattr(key, "public_bytes"):

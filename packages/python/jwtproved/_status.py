@@ -46,17 +46,29 @@ class Status(enum.IntEnum):
     BUFFER_TOO_SMALL = 100
     BAD_OPTIONS = 101
     UNKNOWN_NUMBER = 102
-    BAD_SET = 103
     BAD_HEADER = 104
     BAD_CLAIMS = 105
     BAD_KEY = 106
     ALL_ZERO_SECRET = 107
     NO_VERIFIER = 108
-    VERIFIER_IN_USE = 109
+    HANDLE_IN_USE = 109
     NO_USABLE_KEY = 110
     TOKEN_TOO_LONG = 111
     NO_MEMBER = 112
     KEY_AS_SECRET = 113
+    NOT_FOR_SIGNATURES = 115
+    IS_CERTIFICATE = 116
+    NO_KEYS = 117
+    UNFIT_KEY = 118
+
+
+class Source(enum.IntEnum):
+    """What the bytes of a key are, named in the same way."""
+
+    TEXT = 1
+    SECRET = 2
+    CERTIFICATE = 3
+    SET = 4
 
 
 class Of(enum.IntEnum):

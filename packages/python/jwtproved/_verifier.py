@@ -7,8 +7,8 @@ from typing import Any
 
 from . import _refusals
 from ._handles import Handles
-from ._keys import Key, Material, material_of
-from ._library import PREPARE_NOTHING, PREPARED, PREPARED_OF_SET, Refusal
+from ._keys import Key, keys_of
+from ._library import PREPARE_NOTHING, PREPARED, PREPARED_OF_SET, Keys, Refusal
 from ._rules import Further, Moment, Names, Rules, exact_number, exact_str, names_nearest, options_of, rules_of, wrong_type
 from ._unverified import header_of, octets_of
 from .exceptions import ClockError, DecodeError
@@ -53,27 +53,25 @@ class Checker:
     """Verifies tokens with a key under rules: a Verifier without the checks of its arguments. With `waits` the key is prepared when the
     second token comes, since that takes as long as one or two verifications."""
 
-    def __init__(self, material: Material, rules: Rules, longest: int = 0, waits: bool = False) -> None:
-        self._source = material, rules, longest
+    def __init__(self, keys: Keys, rules: Rules, longest: int = 0, waits: bool = False) -> None:
+        self._source = keys, rules, longest
         self._tokens_unprepared = 2 if waits else 0
         self._further = Further(rules)
         self._make(PREPARE_NOTHING if waits else PREPARED)
 
     def _make(self, prepared: int) -> None:
-        material, rules, longest = self._source
-        # the library compares the alg of a key only if the key is in a set
-        algorithms = [it for it in rules.algorithms if material.algorithm in (None, it)]
+        keys, rules, longest = self._source
         try:
-            self._decode = Handles(material.kind, material.text, rules.text(algorithms), longest, prepared).decode
+            self._decode = Handles(keys.copy(), rules.text(rules.algorithms), longest, prepared, keys.is_secret).decode
         except Refusal as refusal:
-            raise _refusals.exception_of_making(refusal, material.kind == "set", rules.algorithms) from None
+            raise _refusals.exception_of_making(refusal, keys, rules.algorithms) from None
 
     def decode(self, token: bytes, now: int) -> dict[str, Any]:
         if self._tokens_unprepared:
             # two threads may both come to 0
             left = self._tokens_unprepared = max(self._tokens_unprepared - 1, 0)
             if not left:
-                self._make(PREPARED_OF_SET if self._source[0].kind == "set" else PREPARED)
+                self._make(PREPARED_OF_SET if self._source[0].is_set else PREPARED)
         try:
             said = self._decode(token, now)
         except Refusal as refusal:
@@ -85,9 +83,9 @@ class Checker:
 
 # each keeps its key in memory, a secret too
 @functools.lru_cache(maxsize=64)
-def checker_of(material: Material, rules: Rules) -> Checker:
+def checker_of(keys: Keys, rules: Rules) -> Checker:
     """Returns a checker, which is made once for the keys and rules that were used last."""
-    return Checker(material, rules, waits=material.kind != "secret")
+    return Checker(keys, rules, waits=not keys.is_secret)
 
 
 class Verifier:
@@ -122,7 +120,7 @@ class Verifier:
         rules = rules_of(algorithms, asked, audience, issuer, subject, leeway, understood_crit, rejected)
         if not rules.algorithms:
             raise ValueError("algorithms is empty")
-        self._checker = Checker(material_of(key), rules, _longest(max_token_length))
+        self._checker = Checker(keys_of(key), rules, _longest(max_token_length))
 
     def decode(self, token: Token, now: float | None = None) -> dict[str, Any]:
         """Returns the claims of a token, verified at the time `now`, in seconds since 1970-01-01 00:00:00 UTC, or else at the clock's.

@@ -8,8 +8,8 @@ from collections.abc import Callable
 from typing import Any, ClassVar, NoReturn
 
 from . import _cryptography
-from ._keys import Material, PyJWK, bytes_of, is_private, material_of, material_of_public
-from ._library import algorithms_of
+from ._keys import PyJWK, bytes_of, is_private, keys_of, keys_of_public, one
+from ._library import Keys
 from ._rules import wrong_type
 from ._signatures import is_signed
 from ._signing import pkcs1_signs, signs
@@ -40,17 +40,17 @@ def get_default_algorithms() -> dict[str, "Algorithm"]:
     return found
 
 
-def _object(jwk: str | dict[str, Any], key_type: str, error: str) -> dict[str, Any]:
-    """Returns a JSON Web Key of this type (RFC 7518 section 6.1) that fits an algorithm."""
+def _object(jwk: str | dict[str, Any], key_type: str, error: str) -> tuple[dict[str, Any], str]:
+    """Returns a JSON Web Key of this type (RFC 7518 section 6.1), and an algorithm that it is for."""
     try:
         found = json.loads(jwk) if isinstance(jwk, str) else jwk
     except ValueError:
         found = None
     if not isinstance(found, dict):
         raise InvalidKeyError("Key is not valid JSON")
-    if not _cryptography.served(found) or found["kty"] != key_type:
-        raise InvalidKeyError(f"{error}, or it does not serve")
-    return found
+    if found.get("kty") != key_type:
+        raise InvalidKeyError(error)
+    return found, one(keys_of(found)).verifies[0][0]
 
 
 def _written(jwk: dict[str, Any], as_dict: bool) -> Any:
@@ -80,17 +80,15 @@ class Algorithm(ABC):
 
     def verify(self, msg: bytes, key: Any, sig: bytes) -> bool:
         """Returns whether the library accepts the signature of a message. Raises InvalidKeyError if the key does not serve the algorithm."""
-        return is_signed(bytes_of("msg", msg), bytes_of("sig", sig), self._material(key), self._named("verifies"))
+        return is_signed(bytes_of("msg", msg), bytes_of("sig", sig), self._keys(key), self._named("verifies"))
 
     def _named(self, does: str) -> str:
         if self.name is None:
             raise NotImplementedError(f"no algorithm of this digest {does}")
         return self.name
 
-    def _material(self, key: Any) -> Material:
-        if isinstance(key, PyJWK):
-            return key._material
-        return material_of_public(key.public_key() if is_private(key) else key)
+    def _keys(self, key: Any) -> Keys:
+        return keys_of(key) if isinstance(key, PyJWK) else keys_of_public(key.public_key() if is_private(key) else key)
 
     def _of_jwk(self, key: Any) -> Any:
         """Returns the key of a PyJWK, and any other as it is."""
@@ -144,16 +142,16 @@ class HMACAlgorithm(Algorithm):
         key = self._of_jwk(key)
         if not isinstance(key, (str, bytes, bytearray, memoryview)):
             raise TypeError("Expected a string value")
-        material = material_of(bytes_of("key", key))
-        if material.kind != "secret":
+        keys = keys_of(bytes_of("key", key))
+        if not keys.is_secret:
             raise InvalidKeyError("the key is public, and is no secret of HMAC")
-        return material.text
+        return keys.given
 
     def sign(self, msg: bytes, key: Any) -> bytes:
         return hmac.new(self._of_jwk(key), msg, self.hash_alg).digest()
 
-    def _material(self, key: Any) -> Material:
-        return material_of(key)
+    def _keys(self, key: Any) -> Keys:
+        return keys_of(key)
 
     @staticmethod
     def to_jwk(key_obj: str | bytes, as_dict: bool = False) -> Any:
@@ -161,7 +159,7 @@ class HMACAlgorithm(Algorithm):
 
     @staticmethod
     def from_jwk(jwk: str | dict[str, Any]) -> bytes:
-        return _cryptography.octets(_object(jwk, "oct", "Not an HMAC key"), "k")
+        return _cryptography.octets(_object(jwk, "oct", "Not an HMAC key")[0], "k")
 
 
 class _OfCryptography(Algorithm):
@@ -178,9 +176,8 @@ class _OfCryptography(Algorithm):
             key = _cryptography.of_any_pem(bytes_of("key", key))
         elif not is_private(key) and not hasattr(key, "public_bytes"):
             raise wrong_type("key", "a key in PEM, or one of cryptography", key)
-        text = self._material(key).text
-        if not algorithms_of(text) or json.loads(text)["kty"] != self._key_type:
-            raise InvalidKeyError(f"the key is not of the type {self._key_type}, or does not serve")
+        if json.loads(self._keys(key).text())["kty"] != self._key_type:
+            raise InvalidKeyError(f"the key is not of the type {self._key_type}")
         return key
 
     def sign(self, msg: bytes, key: Any) -> bytes:
@@ -216,7 +213,7 @@ class RSAAlgorithm(_OfCryptography):
 
     @staticmethod
     def from_jwk(jwk: str | dict[str, Any]) -> Any:
-        return _cryptography.of_jwk(_object(jwk, "RSA", "Not an RSA key"))
+        return _cryptography.of_jwk(*_object(jwk, "RSA", "Not an RSA key"))
 
 
 class RSAPSSAlgorithm(RSAAlgorithm):
@@ -238,7 +235,7 @@ class ECAlgorithm(_OfCryptography):
 
     @staticmethod
     def from_jwk(jwk: str | dict[str, Any]) -> Any:
-        return _cryptography.of_jwk(_object(jwk, "EC", "Not an Elliptic curve key"))
+        return _cryptography.of_jwk(*_object(jwk, "EC", "Not an Elliptic curve key"))
 
 
 class OKPAlgorithm(_OfCryptography):
@@ -255,4 +252,4 @@ class OKPAlgorithm(_OfCryptography):
 
     @staticmethod
     def from_jwk(jwk: str | dict[str, Any]) -> Any:
-        return _cryptography.of_jwk(_object(jwk, "OKP", "Not an Octet Key Pair"))
+        return _cryptography.of_jwk(*_object(jwk, "OKP", "Not an Octet Key Pair"))

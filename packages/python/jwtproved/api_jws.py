@@ -5,7 +5,7 @@ from typing import Any, Never
 from . import _refusals
 from ._api import get_unverified_header
 from ._encoding import members_of
-from ._keys import Key, PyJWK, SigningKey, material_of
+from ._keys import Key, PyJWK, SigningKey, keys_of
 from ._library import ALGORITHMS
 from ._rules import arguments_of, check_keywords, listed, names_nearest, options_of, wrong_type
 from ._signatures import is_signed, signed_part
@@ -156,9 +156,9 @@ class PyJWS:
 
 def _check_signature(token: bytes, message: bytes, key: Key, algorithm: str) -> None:
     """Raises an exception if the library does not read the token's header, or does not accept its signature for this message."""
-    part, material = signed_part(token), material_of(key)
+    part, keys = signed_part(token), keys_of(key)
     try:
-        is_accepted = is_signed(message, part.signature, material, algorithm)
+        is_accepted = is_signed(message, part.signature, keys, algorithm)
     except InvalidKeyError as error:
         # the sender of the token may have chosen the key by its kid (PyJWKClient)
         if isinstance(key, PyJWK):

@@ -94,5 +94,9 @@ class PyJWKSetError(PyJWTError):
     """The JSON Web Key Set can't be read, or has no key that verifies tokens."""
 
 
+class UnusableSetError(PyJWKClientError, PyJWKSetError):
+    """The set that was fetched has no key that verifies tokens: the text has the reason for each of its keys."""
+
+
 class ClockError(PyJWTError):
     """The system clock is before 1970-01-01, or not a number, so that no token can be judged. PyJWT has no such exception."""

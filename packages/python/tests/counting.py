@@ -1,6 +1,8 @@
 """What the tests of the package share: they count, and set the clock that the package reads."""
 import base64
+import contextlib
 import importlib
+import logging
 import os
 import sys
 
@@ -9,7 +11,7 @@ if "by-ctypes" in sys.argv:
     sys.modules["jwtproved._fast"] = None
 
 import jwtproved
-from jwtproved import _verifier
+from jwtproved import _api, _keys, _library, _verifier
 
 TOP = os.path.dirname(os.path.dirname(os.path.dirname(os.path.dirname(os.path.abspath(__file__)))))
 sys.path.append(f"{TOP}/tests")
@@ -26,6 +28,9 @@ def peer():
     finally:
         sys.path[:] = found
 
+
+# the keys that a set skips are logged, and Python would write that to stderr
+logging.getLogger("jwtproved").addHandler(logging.NullHandler())
 
 SECRET = "0123456789abcdef0123456789abcdef"
 NOW = 1700000000
@@ -78,6 +83,24 @@ def changed(token):
 def at(moment):
     """Sets the clock that the package reads."""
     _verifier._clock = lambda: moment
+
+
+def forget():
+    """Drops the keys and the verifiers that the package keeps."""
+    _api._global._kept.clear()
+    for it in (_verifier.checker_of, _keys._of_text, _keys._of_file, _keys._of_jwk, _keys._of_set, _keys._of_json):
+        it.cache_clear()
+
+
+@contextlib.contextmanager
+def replaced(name, call):
+    """Has another call in the place of one of the library's, which it is given before the arguments."""
+    real = getattr(_library.library, name)
+    setattr(_library.library, name, lambda *arguments: call(real, *arguments))
+    try:
+        yield
+    finally:
+        setattr(_library.library, name, real)
 
 
 def finish(what):

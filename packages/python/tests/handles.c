@@ -1,6 +1,6 @@
 /*
- * The calls of verifiers for test_handles.py, before those of the real library: their handles end the program if two calls use one at
- * once, which the real ones can't see. A token's length decides what is said of it: 2 is accepted, 4 has long claims, 5 is out of memory,
+ * The calls of handles for test_handles.py, before those of the real library: they end the program if two calls use a handle at once,
+ * which the real ones can't see. A token's length decides what is said of it: 2 is accepted, 4 has long claims, 5 is out of memory,
  * and any other is refused.
  */
 #define _DEFAULT_SOURCE
@@ -26,8 +26,8 @@ int living_handles(void) {
     return living;
 }
 
-static void enter(struct jwt_verifier *verifier) {
-    struct held *held = verifier->at;
+static void enter(struct jwt_handle *handle) {
+    struct held *held = handle->at;
 
     if (held == NULL || atomic_exchange(&held->is_busy, 1)) {
         fputs("a handle is in two calls at once, or was freed\n", stderr);
@@ -35,56 +35,59 @@ static void enter(struct jwt_verifier *verifier) {
     }
 }
 
-static void leave(struct jwt_verifier *verifier) {
-    atomic_store(&((struct held *)verifier->at)->is_busy, 0);
+static void leave(struct jwt_handle *handle) {
+    atomic_store(&((struct held *)handle->at)->is_busy, 0);
 }
 
-static enum jwt_status make(struct jwt_verifier *verifier) {
-    verifier->at = calloc(1, sizeof(struct held));
-    if (verifier->at == NULL) {
+/* Stands for what a call does with a handle. */
+static void use(struct jwt_handle *handle) {
+    enter(handle);
+    usleep(50);
+    leave(handle);
+}
+
+static enum jwt_status make(struct jwt_handle *handle) {
+    handle->at = calloc(1, sizeof(struct held));
+    if (handle->at == NULL) {
         return JWT_OUT_OF_MEMORY;
     }
     living++;
     return JWT_OK;
 }
 
-enum jwt_status jwt_verifier_secret(const uint8_t *secret, size_t secret_len, const char *options, size_t options_len,
-                                    size_t max_token_len, bool allows_blank, size_t max_prepared,
-                                    struct jwt_verifier *verifier) {
-    (void)secret, (void)options, (void)options_len, (void)max_token_len, (void)allows_blank, (void)max_prepared;
-    return secret_len == 3 ? JWT_NO_USABLE_KEY : make(verifier);
+enum jwt_status jwt_keys_add(struct jwt_handle *keys, uint32_t source, const uint8_t *bytes, size_t bytes_len,
+                             size_t *items, size_t *kept) {
+    (void)source, (void)bytes, (void)bytes_len;
+    *items = *kept = 1;
+    return make(keys);
 }
 
-enum jwt_status jwt_verifier_key(const char *key, size_t key_len, const char *options, size_t options_len,
-                                 size_t max_token_len, bool allows_blank, size_t max_prepared,
-                                 struct jwt_verifier *verifier) {
-    (void)key;
-    return jwt_verifier_secret(NULL, key_len, options, options_len, max_token_len, allows_blank, max_prepared,
-                               verifier);
+enum jwt_status jwt_keys_info(struct jwt_handle *keys, size_t at, struct jwt_key_info *info) {
+    (void)at;
+    use(keys);
+    *info = (struct jwt_key_info){.verifies = 1 << JWT_HS256};
+    return JWT_OK;
 }
 
-enum jwt_status jwt_verifier_set(const char *set, size_t set_len, const char *options, size_t options_len,
-                                 size_t max_token_len, bool allows_blank, size_t max_prepared,
-                                 struct jwt_verifier *verifier) {
-    (void)set;
-    return jwt_verifier_secret(NULL, set_len, options, options_len, max_token_len, allows_blank, max_prepared,
-                               verifier);
-}
-
-enum jwt_status jwt_verifier_share(struct jwt_verifier *verifier, struct jwt_verifier *other) {
-    enter(verifier);
-    usleep(50);
-    leave(verifier);
+enum jwt_status jwt_share(struct jwt_handle *handle, struct jwt_handle *other) {
+    use(handle);
     return make(other);
 }
 
-void jwt_verifier_free(struct jwt_verifier *verifier) {
-    if (verifier->at != NULL) {
-        enter(verifier);
-        free(verifier->at);
-        verifier->at = NULL;
+void jwt_free(struct jwt_handle *handle) {
+    if (handle->at != NULL) {
+        enter(handle);
+        free(handle->at);
+        handle->at = NULL;
         living--;
     }
+}
+
+enum jwt_status jwt_verifier_new(struct jwt_handle *keys, const char *options, size_t options_len, size_t max_token_len,
+                                 size_t max_prepared, struct jwt_handle *verifier) {
+    (void)options, (void)max_token_len, (void)max_prepared;
+    use(keys);
+    return options_len == 3 ? JWT_NO_USABLE_KEY : make(verifier);
 }
 
 static enum jwt_status say(const char *claims, size_t size, char *buffer, size_t buffer_len, size_t *len) {
@@ -97,7 +100,13 @@ static enum jwt_status say(const char *claims, size_t size, char *buffer, size_t
     return JWT_OK;
 }
 
-enum jwt_status jwt_verifier_decode(struct jwt_verifier *verifier, const char *token, size_t token_len, uint64_t now,
+enum jwt_status jwt_keys_text(struct jwt_handle *keys, size_t at, char *buffer, size_t buffer_len, size_t *len) {
+    (void)at;
+    use(keys);
+    return say("{}", 2, buffer, buffer_len, len);
+}
+
+enum jwt_status jwt_verifier_decode(struct jwt_handle *verifier, const char *token, size_t token_len, uint64_t now,
                                     char *buffer, size_t buffer_len, size_t *len, uint64_t *last, uint32_t *test) {
     enum jwt_status status = token_len == 5 ? JWT_OUT_OF_MEMORY : JWT_INVALID_SIGNATURE;
 

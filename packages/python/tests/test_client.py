@@ -194,6 +194,8 @@ MISBEHAVING = {
     "serves null": says(b"null"),
     "serves a list": says(b"[]"),
     "serves no keys": says(b"{}"),
+    "serves one key": says(json.dumps(key("b")).encode()),
+    "serves a public key in PEM": says(b"-----BEGIN PUBLIC KEY-----\nMCowBQYDK2VwAyEA11qYAYKxCrfVS/7TyWQHOg7hcvPapiMlrwIaaPcHURo=\n-----END PUBLIC KEY-----\n"),
     "serves an empty set": says(b'{"keys":[]}'),
     "serves keys that are no list": says(b'{"keys":{"a":1}}'),
     "serves keys of unknown kinds": says(b'{"keys":[{},5,null,[],{"kty":"x"},{"kty":[]},{"kty":"EC","crv":{}}]}'),
@@ -360,15 +362,20 @@ def nobody_listens():
 
 
 def no_signing_keys():
-    """A set without keys that sign takes the place of no other."""
-    encrypting = json.dumps({"keys": [key("a", use="enc"), key("b", use="enc"), {**key("c"), "kid": None}]}).encode()
-    with serving(says(encrypting), lifespan=0.05) as (server, client):
+    """A set without keys that sign, or whose keys have no kid, takes the place of no other."""
+    unnamed = [{**key(it), "kid": None} for it in "abc"]
+    for keys in ([key("a", use="enc"), key("b", use="enc"), unnamed[2]], unnamed):
+        keeps_the_last(json.dumps({"keys": keys}).encode())
+
+
+def keeps_the_last(unusable):
+    with serving(says(unusable), lifespan=0.05) as (server, client):
         raises(jwt.PyJWKClientError, client.get_signing_keys, said="did not contain any signing keys")
         raises(jwt.PyJWKClientError, decoded, client, token("a"), said="did not contain any signing keys")
         server.answer = says(GOOD)
         time.sleep(0.31)
         gives(CLAIMS, decoded, client, token("a"))
-        server.answer = says(encrypting)
+        server.answer = says(unusable)
         time.sleep(0.06)
         fetches = len(server.heads)
         gives(CLAIMS, decoded, client, token("a"))
@@ -848,7 +855,7 @@ def chooses():
     for kind, accepted, refused in (
         (Fetching, "ac", "bCx"),
         (Narrow, "c", "abx"),
-        (Wide, "abc", "x"),
+        (Wide, "ac", "bx"),
         (Keeping, "ac", "bx"),
         (Matching, "aAcC", "bBx"),
         (Fixed, "ac", "bx"),

@@ -1,5 +1,5 @@
-"""Tests that the installed package gives no handle of a verifier to two calls at once, and frees each, over the calls of handles.c. It
-needs a C compiler. The last line counts."""
+"""Tests that the installed package gives no handle of keys or of a verifier to two calls at once, and frees each, over the calls of
+handles.c. It needs a C compiler. The last line counts."""
 import ctypes
 import gc
 import importlib.util
@@ -21,6 +21,7 @@ with tempfile.TemporaryDirectory() as folder:
 
     from jwtproved import _library
     from jwtproved._handles import Handles, is_issued
+    from jwtproved._status import Source
 living = _library.library.living_handles
 
 
@@ -32,8 +33,13 @@ def said(handles, token):
         return refusal.status, refusal.test
 
 
-def answers(kind):
-    handles = Handles(kind, b"a key", b"{}", 0)
+def handles_of(source, options=b"{}"):
+    keys = _library.Keys(source, b"a key")
+    return Handles(keys.copy(), options, 0, 0, keys.is_secret)
+
+
+def answers(source):
+    handles = handles_of(source)
     gives('{"a":1}', said, handles, b"ok")
     gives('{"a":1}', said, handles, b"long")
     gives((2, 14), said, handles, b"other token")
@@ -42,27 +48,44 @@ def answers(kind):
     for arguments in (("ok", 5), (b"ok", "5"), (b"ok",), (b"ok", 5, 5), (None, 5)):
         got = outcome(handles.decode, *arguments)
         test(f"{got!r} of {arguments}", isinstance(got, (TypeError, ctypes.ArgumentError)))
-    got = outcome(Handles, kind, b"key", b"{}", 0)
-    test(f"{got!r} of a key that is not fit", type(got) is _library.Refusal and (got.status, got.test) == (110, 0))
+    for _ in range(3):
+        got = outcome(handles_of, source, b"[1]")
+        test(f"{got!r} of a key that is not fit", type(got) is _library.Refusal and (got.status, got.test) == (110, 0))
+    copy = _library.Keys(source, b"a key").copy()
+    for arguments in ((), (copy,), (copy, "{}"), (b"a key!!!", b"{}"), (bytearray(7), b"{}"), (5, b"{}")):
+        got = outcome(Handles, *arguments)
+        test(f"{got!r} of {arguments}", isinstance(got, (TypeError, ctypes.ArgumentError)))
 
 
-def threads(kind):
+def at_once(work):
+    """Calls it in 16 threads that begin at the same time."""
+    begin = threading.Barrier(16)
+    started = [threading.Thread(target=lambda: begin.wait() + 1 and work()) for _ in range(16)]
+    for it in started:
+        it.start()
+    for it in started:
+        it.join()
+
+
+def threads(source):
     """In many threads each call has a handle of its own, or the program ends."""
-    handles, wrong, begin = Handles(kind, b"a key", b"{}", 0), [], threading.Barrier(16)
+    handles, keys, wrong, made = handles_of(source), _library.Keys(source, b"a key"), [], []
 
     def work():
-        begin.wait()
         for _ in range(40):
             got = [said(handles, it) for it in (b"ok", b"other token", b"long")]
             if got != ['{"a":1}', (2, 14), '{"a":1}']:
                 wrong.append(got)
 
-    started = [threading.Thread(target=work) for _ in range(16)]
-    for it in started:
-        it.start()
-    for it in started:
-        it.join()
-    test(f"threads by a {kind}: {wrong}", not wrong)
+    def make():
+        for _ in range(10):
+            made.append((said(Handles(keys.copy(), b"{}"), b"ok"), keys.text()))
+
+    at_once(work)
+    test(f"threads by a {source.name}: {wrong}", not wrong)
+    at_once(make)
+    wanted = '{"a":1}', b"a key" if keys.is_secret else b"{}"
+    test(f"threads that make verifiers of one {source.name}", len(made) == 160 and set(made) == {wanted})
 
 
 def times_of_issue():
@@ -74,9 +97,9 @@ def times_of_issue():
 
 
 times_of_issue()
-for kind_of_key in ("secret", "key", "set"):
-    answers(kind_of_key)
-    threads(kind_of_key)
+for source_of_key in (Source.SECRET, Source.TEXT):
+    answers(source_of_key)
+    threads(source_of_key)
     # an exception and the frames of its calls refer to each other
     gc.collect()
     test(f"{living()} handles live on", living() == 0)

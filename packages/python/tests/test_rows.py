@@ -1,5 +1,5 @@
-"""Runs rows of crates/jwt_vectors/data by the installed package: those that verify with a JSON Web Key or a set of keys, one signature by any
-key, and those about signatures that are made or checked elsewhere, keys in PEM and thumbprints. The last line counts."""
+"""Runs rows of crates/jwt_vectors/data by the installed package: those that verify with a JSON Web Key or a set of keys, also an odd one, one
+signature by any key, and those about signatures that are made or checked elsewhere, keys in PEM and thumbprints. The last line counts."""
 import base64
 import glob
 import json
@@ -9,7 +9,9 @@ from counting import TOP, finish, gives, outcome, part, test
 import jwtproved as jwt
 from jwtproved import _keys
 
+_OF_KEYS = jwt.InvalidKeyError, jwt.PyJWKError, jwt.PyJWKSetError
 KINDS = {
+    "BadKey": _OF_KEYS,
     "Base64": (jwt.DecodeError,),
     "ExpiredSignature": (jwt.ExpiredSignatureError,),
     "InvalidAlgorithm": (jwt.InvalidAlgorithmError, ValueError),
@@ -18,6 +20,7 @@ KINDS = {
     "InvalidToken": (jwt.DecodeError,),
     "Json": (jwt.DecodeError, ValueError),
     "NoKey": (jwt.UnknownKeyError,),
+    "NoUsableKey": _OF_KEYS,
     "Provider": (jwt.InvalidKeyError,),
     "Signing": (ValueError,),
     "UnsupportedAlgorithm": (jwt.InvalidKeyError,),
@@ -37,6 +40,12 @@ def token_by_key(row):
     key = row["set"] if row["call"] == "decode_with_set" else row["key"]["jwk"]
     verifier = jwt.Verifier(key, algorithms, options, leeway=leeway, reject_tokens_expiring_in_less_than=0)
     return verifier.decode(row["token"], now=row["now"])
+
+
+def token_by_odd_set(row):
+    """Returns the claims of a row's token, by the text of a set, or of a key alone."""
+    read = jwt.PyJWK if row["id"].startswith("alone: ") else jwt.PyJWKSet
+    return jwt.Verifier(read.from_json(row["set"]), row["algorithms"], {"require": ["exp"]}).decode(row["token"], now=row["time"])
 
 
 def token_by_verdict(row):
@@ -105,11 +114,12 @@ def thumbprint(row):
 
 
 def key_in_pem(row):
-    return json.loads(_keys.material_of(raw(row["pem"])).text)
+    return json.loads(_keys.keys_of(raw(row["pem"])).text())
 
 
 CALLS = {
     "verify": is_signature,
+    "decode_with_kept": token_by_odd_set,
     "signing_input": message,
     "encode_by_signature": token_by_signature,
     "ecdsa_signature": signature,
@@ -137,17 +147,25 @@ def call_of(row):
     return CALLS.get(row["call"])
 
 
+def is_weak(row):
+    """Returns whether a row reads a key of RSA with fewer than 2048 bits, which the package refuses (RFC 7518 section 3.3)."""
+    return row["call"] == "jwk_from_pem" and len(row["want"].get("ok", {}).get("n", "A" * 342)) < 342
+
+
 def run(row, call):
-    want = row["want"]
+    want = {"err": "InvalidKeyFormat"} if is_weak(row) else row["want"]
     if "ok" in want:
         ok = want["ok"]
         gives(ok["claims"] if isinstance(ok, dict) and "claims" in ok else ok, call, row)
         return
     got = outcome(call, row)
     kinds = KINDS[want["err"].partition("(")[0]]
-    if row["call"] == "decode_with_set" and want["err"] in ("InvalidKeyFormat", "UnsupportedAlgorithm"):
+    if row["call"] in ("decode_with_set", "decode_with_kept") and want["err"] in ("InvalidKeyFormat", "UnsupportedAlgorithm"):
         # the token named the key
         kinds += (jwt.InvalidAlgorithmError,)
+    if row.get("algorithms") == []:
+        # a mistake of the caller
+        kinds = (ValueError,)
     if row["call"] == "decode_with_set" and want["err"] == "InvalidAlgorithm":
         # PyJWKSet leaves a key out that does not serve its own alg
         kinds += (jwt.InvalidKeyError,)

@@ -194,7 +194,7 @@ def slips():
         ({name: it for name, it in JWKS["RS256"].items() if name != "qi"}, "RS256", "qi"),
         ({**JWKS["RS256"], "oth": []}, "RS256", "primes"),
         (SECRET, "RS256", "PEM"),
-        ({"kty": "oct", "k": part(SECRET.encode())}, "RS256", "private"),
+        ({"kty": "oct", "k": part(SECRET.encode())}, "RS256", "not for RS256"),
         (pem(RSA).replace(b"A", b"B"), "RS256", "PEM"),
         (pem(RSA), "HS256", "private"),
     ):
