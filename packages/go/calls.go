@@ -153,10 +153,10 @@ func ecdsaSignature(der []byte, algorithm string) ([]byte, error) {
 	})
 }
 
-func thumbprint(key []byte, bits uint32) ([]byte, error) {
+// thumbprint returns the thumbprint of the first item. The caller is the only one that has the keys.
+func (k *keys) thumbprint(bits uint32) ([]byte, error) {
 	text, status := fill(96, func(buffer *C.char, size C.size_t, length *C.size_t) C.enum_jwt_status {
-		at, keyLen := slice(key)
-		return C.jwt_thumbprint(at, keyLen, C.uint32_t(bits), buffer, size, length)
+		return C.jwt_thumbprint(&k.handle, 0, C.uint32_t(bits), buffer, size, length)
 	})
 	switch status {
 	case C.JWT_OK:

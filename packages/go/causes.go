@@ -13,11 +13,17 @@ import (
 	"strings"
 )
 
-// The functions here add to the text of an error what is at fault, for whoever reads a log. The library has decided before, and is asked
-// which member it does not read.
+// The functions here add to the text of an error what is at fault, for a log. The library has decided before, and does not name the member.
 
-// headerNames are the members of a header that have a type (RFC 7515 section 4.1, RFC 7516 section 4.1, RFC 8555 section 6), after alg.
-var headerNames = []string{"typ", "cty", "jku", "jwk", "kid", "x5u", "x5c", "x5t", "x5t#S256", "crit", "enc", "zip", "url", "nonce"}
+// headerTypes has the members of a header that have a type (RFC 7515 section 4.1, RFC 7516 section 4.1, RFC 8555 section 6), after alg.
+var headerTypes = []struct {
+	is    C.uint32_t
+	names []string
+}{
+	{C.JWT_STRING, []string{"typ", "cty", "jku", "kid", "x5u", "x5t", "x5t#S256", "enc", "zip", "url", "nonce"}},
+	{C.JWT_OBJECT, []string{"jwk"}},
+	{C.JWT_ARRAY, []string{"x5c", "crit"}},
+}
 
 // longestText is how many bytes of a text from the token an error shows. A longer header than longestHeader is not searched for its fault.
 // deepestPath is how many steps the path to a number has.
@@ -104,7 +110,7 @@ func missingKey(token string) string {
 	if !isThere {
 		return "the header has no kid"
 	}
-	return "the set has no key " + quoted(kid)
+	return "the set has no usable key " + quoted(kid)
 }
 
 // faultOfPart returns what is at fault in the header of a token.
@@ -121,32 +127,24 @@ func faultOfPart(token string) string {
 
 // faultOfHeader returns what is at fault in a header that the library does not read.
 func faultOfHeader(header []byte) string {
-	var members map[string]json.RawMessage
-	if json.Unmarshal(header, &members) != nil || members == nil {
-		return "the header is not an object"
-	}
-	var alg *string
-	if json.Unmarshal(members["alg"], &alg) != nil || alg == nil {
+	alg, isText := stringOf(header, "alg")
+	if !isText {
 		return "the header has no alg that is a text"
 	}
-	if numberOf(*alg) == 0 {
-		return fmt.Sprintf("the header's alg %s is none of the twelve", quoted(*alg))
+	if numberOf(alg) == 0 {
+		return fmt.Sprintf("the header's alg %s is none of the twelve", quoted(alg))
 	}
-	for _, name := range headerNames {
-		if value, isThere := members[name]; isThere && !isHeader([]byte(`{"alg":"HS256","`+name+`":`+string(value)+`}`)) {
-			return "the header's " + name + " is of another type"
+	for _, of := range headerTypes {
+		for _, name := range of.names {
+			if _, found, err := member(header, name); err == nil && found != 0 && found != of.is && found != C.JWT_NULL {
+				return "the header's " + name + " is of another type"
+			}
 		}
 	}
 	if name, isThere := unfitNumber(header); isThere {
 		return "the header's " + quoted(name) + " has a number that is not an integer of 64 bits"
 	}
 	return "a member of the header"
-}
-
-// isHeader returns whether the library writes a signing input with a header.
-func isHeader(text []byte) bool {
-	_, _, err := signingInput(text, []byte("{}"))
-	return !isStatus(err, uint32(C.JWT_BAD_HEADER))
 }
 
 // unwritten returns the error of a header and claims of which the library makes no token.

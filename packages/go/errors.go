@@ -20,7 +20,7 @@ var (
 	ErrAlgorithm = errors.New("jwt: the algorithm is not accepted")
 	// ErrCrit is a crit that names a member which is not understood.
 	ErrCrit = errors.New("jwt: crit is not understood")
-	// ErrUnknownKey is a header that names no key of the set.
+	// ErrUnknownKey is a header that names no usable key of the set.
 	ErrUnknownKey = errors.New("jwt: the set has no such key")
 	// ErrExpired is an exp that is not after now, less the leeway.
 	ErrExpired = errors.New("jwt: the token has expired")
@@ -93,18 +93,22 @@ func refusal(status C.enum_jwt_status, test C.uint32_t) *Error {
 	}
 }
 
-// keyRefusal returns the error of the status with which a key is refused.
-func keyRefusal(status C.enum_jwt_status) error {
+// keyRefusal returns the error of a key that the library refuses with this status, and what to give instead.
+func keyRefusal(status C.enum_jwt_status) *Error {
 	why := statusText(status)
 	switch status {
 	case C.JWT_OUT_OF_MEMORY:
 		return refusal(status, 0)
+	case C.JWT_BAD_KEY:
+		why += ": ParseJWKSet reads a key set, ParseJWK one key, ParsePEM a key in PEM, and NewSecretKey any secret"
 	case C.JWT_KEY_AS_SECRET:
 		why += ": of SSH, in PEM, in DER, a JSON Web Key or a key set"
 	case C.JWT_NO_USABLE_KEY:
-		why += ": a key of a set needs a kid, and an alg that is accepted or none"
+		why += ": a key with an alg verifies with that algorithm alone, and a key of a set needs a kid"
 	case C.JWT_PROVIDER:
-		why = "it is a private key, and tokens are verified by the public one"
+		why = "it is a private key, and tokens are verified with the public key"
+	case C.JWT_IS_CERTIFICATE:
+		why = "it is a certificate: x509.ParseCertificate reads it, and NewPublicKey takes its PublicKey"
 	}
 	return &Error{Status: uint32(status), kind: ErrKey, text: "the key does not serve: " + why}
 }

@@ -236,13 +236,9 @@ func TestFamilies(t *testing.T) {
 	wants(t, joe, joesToken, nil)
 }
 
-// TestAlgorithms compares the algorithms that keys are read for with the algorithms of the library.
+// TestAlgorithms compares the names of RFC 7518 section 3.1 and RFC 8037 section 3.1 with the algorithms of the library.
 func TestAlgorithms(t *testing.T) {
-	var all struct{ Algorithms []string }
-	if err := json.Unmarshal([]byte(allAlgorithms), &all); err != nil || len(all.Algorithms) != 12 {
-		t.Fatal(all, err)
-	}
-	for i, it := range all.Algorithms {
+	for i, it := range []string{"HS256", "HS384", "HS512", "RS256", "RS384", "RS512", "PS256", "PS384", "PS512", "ES256", "ES384", "EdDSA"} {
 		if number := numberOf(it); int(number) != i+1 || textOf(3, number) != it {
 			t.Errorf("%s: %d, %s", it, number, textOf(3, number))
 		}
@@ -299,7 +295,7 @@ func TestNoUsableKey(t *testing.T) {
 			t.Fatal(err)
 		}
 		verifier, err := NewVerifier(key, it.algorithms)
-		if verifier != nil || !errors.Is(err, ErrKey) || !isStatus(err, unfitKey) || !strings.Contains(err.Error(), fmt.Sprintf("%q", it.algorithms)) {
+		if verifier != nil || !errors.Is(err, ErrKey) || !isStatus(err, noUsableKey) || !strings.Contains(err.Error(), fmt.Sprintf("%q", it.algorithms)) {
 			t.Errorf("%q: %v", it.algorithms, err)
 		}
 	}

@@ -50,6 +50,7 @@ type KeySet struct {
 	fetch                     Fetch
 	refresh, refetch, timeout time.Duration
 	isLazy                    bool
+	skipped                   func(SkippedKey)
 	ctx                       context.Context
 	current                   atomic.Pointer[fetched]
 
@@ -63,7 +64,8 @@ type KeySet struct {
 
 // fetched is a set that is usable, or the empty one before the first (WithLazyStart).
 type fetched struct {
-	key     Key
+	keys    *keys
+	text    []byte
 	isEmpty bool
 	mutex   sync.Mutex // of kept
 	kept    []*keptHandles
@@ -83,7 +85,7 @@ type keptHandles struct {
 // them without a lock, so that only calls with the same options wait.
 func (f *fetched) handles(options []byte) *handleSet {
 	it := f.keptFor(options)
-	it.once.Do(func() { it.made = newHandleSet(f, f.key, options, forFetchedSet) })
+	it.once.Do(func() { it.made = newHandleSet(f, f.keys, options, forFetchedSet) })
 	if errors.Is(it.made.err, ErrOutOfMemory) {
 		f.forget(it)
 	}
@@ -160,6 +162,21 @@ func WithLazyStart() KeySetOption {
 	}
 }
 
+// WithSkippedKeys calls this function with each item of a fetched set that is skipped, for a log, before the set is used. It is called in the
+// goroutine that fetches, and not again for a set with the same text. If it panics, the fetch has failed.
+func WithSkippedKeys(log func(SkippedKey)) KeySetOption {
+	return func(set *KeySet) error {
+		if log == nil {
+			return optionError("WithSkippedKeys has no function")
+		}
+		if set.skipped != nil {
+			return optionError("WithSkippedKeys is given twice: %s", leaveOneOut)
+		}
+		set.skipped = log
+		return nil
+	}
+}
+
 // setDuration sets a duration that is 0 until an option gives it.
 func setDuration(option string, at *time.Duration, duration time.Duration) error {
 	if duration <= 0 {
@@ -182,7 +199,8 @@ func (s *KeySet) setDefaults() {
 }
 
 // NewKeySet returns the set that fetch returns, once the first fetch gave a usable one, or at once with WithLazyStart. It is fetched again
-// until the context ends, and then stays as it is. An error is ErrFetch, ErrKey if the text is not a usable set, or ErrOption.
+// until the context ends, and then stays as it is. A set is usable if ParseJWKSet reads it: items that are not usable keys are skipped, and
+// WithSkippedKeys reports them. An error is ErrFetch, ErrKey if the text is not a usable set, or ErrOption.
 func NewKeySet(ctx context.Context, fetch Fetch, opts ...KeySetOption) (*KeySet, error) {
 	if ctx == nil {
 		return nil, optionError("ctx is nil")
@@ -201,7 +219,11 @@ func NewKeySet(ctx context.Context, fetch Fetch, opts ...KeySetOption) (*KeySet,
 	}
 	set.setDefaults()
 	if set.isLazy {
-		set.current.Store(&fetched{key: newKey(keySet, []byte(`{"keys":[]}`)), isEmpty: true})
+		empty, err := readKeys(fromSet, []byte(`{"keys":[]}`))
+		if err != nil {
+			return nil, err
+		}
+		set.current.Store(&fetched{keys: empty, isEmpty: true})
 		set.failure = errNotFetched
 		set.start()
 	} else if set.wait(set.start()); set.current.Load() == nil {
@@ -269,7 +291,7 @@ func (s *KeySet) Key() Key {
 	if s == nil || s.current.Load() == nil {
 		return Key{}
 	}
-	return Key{kind: keySet, bytes: func() []byte { return s.current.Load().key.bytes() }, set: func() *KeySet { return s }}
+	return Key{keys: func() *keys { return s.current.Load().keys }, set: func() *KeySet { return s }}
 }
 
 // Fetched returns when the set that is used was fetched, or the zero time if there is none.
@@ -379,18 +401,31 @@ func (s *KeySet) usable(ctx context.Context) (*fetched, error) {
 		return nil, fetchError("it has more than %d bytes", largestSet)
 	}
 	before := s.current.Load()
-	if before != nil && !before.isEmpty && bytes.Equal(text, before.key.bytes()) {
+	if before != nil && !before.isEmpty && bytes.Equal(text, before.text) {
 		return before, nil
 	}
-	key, err := ParseJWKSet(text)
-	if err != nil {
+	found := &fetched{text: append([]byte(nil), text...)}
+	if found.keys, err = s.read(text); err != nil {
 		return nil, err
 	}
-	found := &fetched{key: key}
 	if before != nil {
 		found.prepare(before)
 	}
 	return found, nil
+}
+
+// read has the library read a set, and reports the items that are skipped.
+func (s *KeySet) read(text []byte) (*keys, error) {
+	read, err := readKeys(fromSet, text)
+	if err != nil {
+		return nil, err
+	}
+	if s.skipped != nil {
+		for _, it := range read.skipped(read.items) {
+			s.skipped(it)
+		}
+	}
+	return read, read.usable()
 }
 
 // wait waits for the end of a fetch, but no longer than until the timeout after its begin. It returns whether the fetch has ended.

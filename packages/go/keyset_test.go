@@ -3,10 +3,13 @@ package jwt
 import (
 	"bufio"
 	"context"
+	"crypto"
 	"crypto/ecdsa"
 	"crypto/ed25519"
 	"crypto/elliptic"
 	"crypto/sha256"
+	"crypto/x509"
+	"encoding/pem"
 	"errors"
 	"fmt"
 	"io"
@@ -46,6 +49,20 @@ func setOf(kids ...string) string {
 		keys = append(keys, fmt.Sprintf(`{"kty":"OKP","crv":"Ed25519","kid":%q,"x":%q}`, kid, part(public)))
 	}
 	return `{"keys":[` + strings.Join(keys, ",") + `]}`
+}
+
+// keyOf returns the key of a set of one, without the set.
+func keyOf(set string) string {
+	return strings.TrimSuffix(strings.TrimPrefix(set, `{"keys":[`), "]}")
+}
+
+// pemOf returns a public key in PEM.
+func pemOf(t *testing.T, public crypto.PublicKey) string {
+	der, err := x509.MarshalPKIXPublicKey(public)
+	if err != nil {
+		t.Fatal(err)
+	}
+	return string(pem.EncodeToMemory(&pem.Block{Type: "PUBLIC KEY", Bytes: der}))
 }
 
 // tokenOf returns a token that names a key, signed by this or by another one.
@@ -137,6 +154,7 @@ func redirects(to string) reply { return sends(head("302 Found", 0, "Location: "
 // misbehaving has answers that are not a usable set, though many have the key b.
 func misbehaving(t *testing.T) map[string]reply {
 	set := setOf("b")
+	unnamed := strings.Replace(set, `"kid":"b",`, "", 1)
 	file := filepath.Join(t.TempDir(), "keys")
 	if err := os.WriteFile(file, []byte(set), 0o600); err != nil {
 		t.Fatal(err)
@@ -170,7 +188,10 @@ func misbehaving(t *testing.T) map[string]reply {
 		"serves no keys":                says("{}"),
 		"serves an empty set":           says(`{"keys":[]}`),
 		"serves keys that are no list":  says(`{"keys":{"a":1}}`),
-		"serves a key without a kid":    says(strings.Replace(set, `"kid":"b",`, "", 1)),
+		"serves a key without a kid":    says(unnamed),
+		"serves a kid of no usable key": says(strings.Replace(unnamed, "[", `[{"kty":"oct","kid":"b","k":""},`, 1)),
+		"serves one key, in no set":     says(keyOf(set)),
+		"serves one key, in PEM":        says(pemOf(t, signer("b").Public())),
 		"serves keys of unknown kinds":  says(`{"keys":[{"kty":"x","kid":"b"},{"kty":"EC","crv":"P-521","kid":"b","x":"AA","y":"AA"}]}`),
 		"serves a point off the curve":  says(`{"keys":[{"kty":"EC","crv":"P-256","kid":"b","x":"AQAB","y":"AQAB"}]}`),
 		"serves a secret that is empty": says(`{"keys":[{"kty":"oct","kid":"b","k":""}]}`),
@@ -854,10 +875,10 @@ func TestManyKeys(t *testing.T) {
 	}
 }
 
-// TestKeysOfOneKid has sets by which the library decides alike, whether it has the whole set or the keys of one kid: of several the
-// first counts, as does a key's own algorithm.
+// TestKeysOfOneKid has a set that stays and is fetched. Of several keys with one kid the first usable one counts. A key whose alg is not one of
+// its kind is not usable.
 func TestKeysOfOneKid(t *testing.T) {
-	keys := strings.TrimSuffix(setOf("a", "b", "c", "d"), "]}")
+	keys := strings.TrimSuffix(strings.Replace(setOf("a", "b", "c", "d"), "[", `[{"kty":"oct","kid":"x","k":""},`, 1), "]}")
 	keys = strings.Replace(strings.Replace(keys, `"kid":"a"`, `"kid":"x"`, 1), `"kid":"b"`, `"kid":"x"`, 1)
 	keys = strings.Replace(keys, `"kid":"c"`, `"kid":"c","alg":"ES256"`, 1)
 	text := strings.Replace(keys, `"kid":"d"`, `"kid":"e","k\u0069d":"\u0064"`, 1) + "]}"
@@ -876,7 +897,7 @@ func TestKeysOfOneKid(t *testing.T) {
 		}
 		wants(t, verifier, tokenOf("x", "a"), nil)
 		wants(t, verifier, tokenOf("x", "b"), ErrSignature)
-		wants(t, verifier, tokenOf("c", "c"), ErrAlgorithm)
+		wants(t, verifier, tokenOf("c", "c"), ErrUnknownKey)
 		wants(t, verifier, tokenOf("d", "d"), nil)
 		wants(t, verifier, tokenOf("e", "d"), ErrUnknownKey)
 		wants(t, verifier, tokenOf("", "a"), ErrUnknownKey)
@@ -926,6 +947,10 @@ func TestKeySetArguments(t *testing.T) {
 		{"WithTimeout", func() (*KeySet, error) { return NewKeySet(until, good, WithTimeout(-time.Second)) }},
 		{"WithRefresh is given twice", func() (*KeySet, error) { return NewKeySet(until, good, WithRefresh(1), WithRefresh(1)) }},
 		{"WithRefetch is given twice", func() (*KeySet, error) { return NewKeySet(until, good, WithRefetch(1), WithRefetch(2)) }},
+		{"WithSkippedKeys has no function", func() (*KeySet, error) { return NewKeySet(until, good, WithSkippedKeys(nil)) }},
+		{"WithSkippedKeys is given twice", func() (*KeySet, error) {
+			return NewKeySet(until, good, WithSkippedKeys(func(SkippedKey) {}), WithSkippedKeys(func(SkippedKey) {}))
+		}},
 		{"WithTimeout is given twice", func() (*KeySet, error) { return NewKeySet(until, good, WithTimeout(1), WithTimeout(2)) }},
 		{"uri", func() (*KeySet, error) { return FetchKeySet(until, "", nil) }},
 		{"uri", func() (*KeySet, error) { return FetchKeySet(until, "/keys", nil) }},

@@ -19,14 +19,16 @@ static enum jwt_status decode(uint8_t *verifier, _GoString_ token, uint64_t now,
 		}
 		now = (uint64_t)clock;
 	}
-	return jwt_verifier_decode((struct jwt_verifier *)verifier, _GoStringPtr(token), _GoStringLen(token), now, buffer, size, len, last,
+	return jwt_verifier_decode((struct jwt_handle *)verifier, _GoStringPtr(token), _GoStringLen(token), now, buffer, size, len, last,
 	                           test);
 }
 */
 import "C"
 
 import (
+	"fmt"
 	"runtime"
+	"sync"
 	"unsafe"
 )
 
@@ -83,9 +85,103 @@ func textOf(of, number C.uint32_t) string {
 
 func statusText(status C.enum_jwt_status) string { return textOf(C.JWT_OF_STATUS, C.uint32_t(status)) }
 
+// source is what the bytes are that the library reads keys of.
+type source = C.uint32_t
+
+const (
+	fromText   source = C.JWT_TEXT
+	fromSecret source = C.JWT_SECRET
+	fromSet    source = C.JWT_SET
+)
+
+// keys are what the library has read, once. Their handle may be in one call at a time.
+type keys struct {
+	mutex       sync.Mutex
+	handle      C.struct_jwt_handle
+	items, kept int
+}
+
+// readKeys has the library read keys, or returns the refusal. Items of a set may be skipped.
+func readKeys(from source, bytes []byte) (*keys, error) {
+	read := &keys{}
+	var items, kept C.size_t
+	at, length := octets(bytes)
+	if status := C.jwt_keys_add(&read.handle, from, at, length, &items, &kept); status != C.JWT_OK {
+		return nil, keyRefusal(status)
+	}
+	read.items, read.kept = int(items), int(kept)
+	runtime.SetFinalizer(read, (*keys).free)
+	return read, nil
+}
+
+// free may be called several times.
+func (k *keys) free() { C.jwt_free(&k.handle) }
+
+// usable returns an error if no token can be verified with the keys. Of a set only items with a kid count, since no token can name another.
+func (k *keys) usable() error {
+	info := &C.struct_jwt_key_info{}
+	if C.jwt_keys_info(&k.handle, C.JWT_ALL, info); info.verifies == 0 {
+		return k.unusable()
+	}
+	return nil
+}
+
+// mostReasons is how many skipped items the text of an error lists.
+const mostReasons = 10
+
+// unusable returns the error of keys that fit no algorithm, and lists why items are skipped.
+func (k *keys) unusable() error {
+	refused := keyRefusal(C.JWT_NO_USABLE_KEY)
+	if k.items == 0 {
+		refused.text += "; the set is empty"
+	}
+	listed := k.skipped(mostReasons)
+	for _, it := range listed {
+		refused.text += "; " + it.String()
+	}
+	if more := k.items - k.kept - len(listed); more > 0 {
+		refused.text += fmt.Sprintf("; %d more are skipped", more)
+	}
+	return refused
+}
+
+// skipped returns the skipped items, in their order, up to this number.
+func (k *keys) skipped(most int) []SkippedKey {
+	k.mutex.Lock()
+	defer k.mutex.Unlock()
+	if count := k.items - k.kept; count < most {
+		most = count
+	}
+	found := make([]SkippedKey, 0, most)
+	info := &C.struct_jwt_key_info{}
+	for place := 0; place < k.items && len(found) < most; place++ {
+		if C.jwt_keys_info(&k.handle, C.size_t(place), info) == C.JWT_OK && info.status != C.JWT_OK {
+			found = append(found, SkippedKey{place, k.kidAt(place), uint32(info.status), textOf(C.JWT_OF_STATUS, info.status)})
+		}
+	}
+	return found
+}
+
+// kidAt returns the kid of an item, or "" without a kid.
+func (k *keys) kidAt(place int) string {
+	text, err := k.textAt(place)
+	if err != nil {
+		return ""
+	}
+	kid, _ := stringOf(text, "kid")
+	return kid
+}
+
+// textAt returns the JSON Web Key of an item. The caller has the lock, or is the only one that has the keys.
+func (k *keys) textAt(place int) ([]byte, error) {
+	return answer(256, func(buffer *C.char, size C.size_t, length *C.size_t) C.enum_jwt_status {
+		return C.jwt_keys_text(&k.handle, C.size_t(place), buffer, size, length)
+	})
+}
+
 // handle is a verifier of the library, which may be in one call at a time. The last three are what a call returns besides the claims.
 type handle struct {
-	verifier C.struct_jwt_verifier
+	verifier C.struct_jwt_handle
 	length   C.size_t
 	last     C.uint64_t
 	test     C.uint32_t
@@ -110,26 +206,21 @@ const (
 	forFetchedSet preparedSize = 1 << 20
 )
 
-// newHandle returns a handle of a key and options, or the refusal.
-func newHandle(key Key, options []byte, longest tokenLength, prepared preparedSize) (*handle, error) {
+// newHandle returns a verifier of keys and options, or the refusal.
+func newHandle(by *keys, options []byte, longest tokenLength, prepared preparedSize) (*handle, error) {
 	made := &handle{}
-	keyAt, keyLen := slice(key.bytes())
-	optionsAt, optionsLen := slice(options)
-	var status C.enum_jwt_status
-	switch key.kind {
-	case secretKey:
-		status = C.jwt_verifier_secret(octetsAt(keyAt), keyLen, optionsAt, optionsLen, longest, false, prepared, &made.verifier)
-	case singleKey:
-		status = C.jwt_verifier_key(keyAt, keyLen, optionsAt, optionsLen, longest, false, prepared, &made.verifier)
-	default:
-		status = C.jwt_verifier_set(keyAt, keyLen, optionsAt, optionsLen, longest, false, prepared, &made.verifier)
-	}
+	at, length := slice(options)
+	by.mutex.Lock()
+	status := C.jwt_verifier_new(&by.handle, at, length, longest, prepared, &made.verifier)
+	by.mutex.Unlock()
 	switch status {
 	case C.JWT_OK:
 		runtime.SetFinalizer(made, (*handle).free)
 		return made, nil
 	case C.JWT_BAD_OPTIONS:
 		return nil, refusal(status, 0)
+	case C.JWT_NO_USABLE_KEY:
+		return nil, by.unusable()
 	}
 	return nil, keyRefusal(status)
 }
@@ -137,7 +228,7 @@ func newHandle(key Key, options []byte, longest tokenLength, prepared preparedSi
 // share returns one more handle of the same keys and options.
 func (it *handle) share() (*handle, error) {
 	made := &handle{}
-	if status := C.jwt_verifier_share(&it.verifier, &made.verifier); status != C.JWT_OK {
+	if status := C.jwt_share(&it.verifier, &made.verifier); status != C.JWT_OK {
 		return nil, refusal(status, 0)
 	}
 	runtime.SetFinalizer(made, (*handle).free)
@@ -145,7 +236,7 @@ func (it *handle) share() (*handle, error) {
 }
 
 // free may be called several times.
-func (it *handle) free() { C.jwt_verifier_free(&it.verifier) }
+func (it *handle) free() { C.jwt_free(&it.verifier) }
 
 // smallToken has room for the claims of a short token: one request for memory takes less time than two.
 type smallToken struct {
@@ -190,29 +281,8 @@ func (it *handle) verifySignature(token string) error {
 	return refusal(status, it.test)
 }
 
-// checkSecret returns an error if others can sign with a secret.
-func checkSecret(secret []byte) error {
-	at, length := octets(secret)
-	if status := C.jwt_check_secret(at, length); status != C.JWT_OK {
-		return keyRefusal(status)
-	}
-	return nil
-}
-
-// keyFromPEM returns the JSON Web Key of a public key.
-func keyFromPEM(text []byte) ([]byte, error) {
-	jwk, status := fill(len(text)+128, func(buffer *C.char, size C.size_t, length *C.size_t) C.enum_jwt_status {
-		at, textLen := slice(text)
-		return C.jwt_key_from_pem(at, textLen, buffer, size, length)
-	})
-	if status != C.JWT_OK {
-		return nil, keyRefusal(status)
-	}
-	return jwk, nil
-}
-
 // Statuses that are more than their kind.
 const (
-	noKey    = uint32(C.JWT_NO_KEY)
-	unfitKey = uint32(C.JWT_NO_USABLE_KEY)
+	noKey       = uint32(C.JWT_NO_KEY)
+	noUsableKey = uint32(C.JWT_NO_USABLE_KEY)
 )

@@ -71,9 +71,30 @@ func TestZeros(t *testing.T) {
 func madeWith(made []byte) []error {
 	_, bySecret := NewSecretKey(made)
 	_, byJWK := ParseJWK([]byte(jwkOf(made)))
-	_, bySet := ParseJWKSet([]byte(`{"keys":[` + jwkOf(secret) + `,` + jwkOf(made) + `,` + jwkOf(secret) + `]}`))
+	bySet := skippedIn(`{"keys":[` + jwkOf(secret) + `,` + jwkOf(made) + `,` + jwkOf(secret) + `]}`)
 	_, signing := Sign(map[string]any{}, made, "HS256", nil)
 	return []error{bySecret, byJWK, bySet, signing}
+}
+
+// skippedIn returns why the item at place 1 of a set is skipped, as an error of ErrKey, or nil if no item is skipped.
+func skippedIn(set string) error {
+	key, err := ParseJWKSet([]byte(set))
+	if err != nil {
+		return err
+	}
+	switch skipped := key.Skipped(); {
+	case len(skipped) == 0:
+		return nil
+	case len(skipped) == 1 && skipped[0].Place == 1:
+		return &Error{Status: skipped[0].Status, kind: ErrKey, text: skipped[0].String()}
+	default:
+		return fmt.Errorf("%v are skipped", skipped)
+	}
+}
+
+// isBlankSet returns whether an error says that a set has no usable key, and that a secret is empty or all zeros.
+func isBlankSet(err error) bool {
+	return errors.Is(err, ErrKey) && isStatus(err, noUsableKey) && strings.Contains(err.Error(), "is skipped: Secret is empty or all zeros")
 }
 
 // TestKeysThatAnyoneHas has secrets in JSON with which anyone can sign, after members of other names. The library reads the very names,
@@ -93,14 +114,13 @@ func TestKeysThatAnyoneHas(t *testing.T) {
 		if key, err := ParseJWK([]byte(it)); !isBlank(err) {
 			t.Errorf("%s: %v, %v", it, key, err)
 		}
-		for _, set := range []string{
-			`{"keys":[` + it + `]}`,
-			`{"keys":[` + it + `],"KEYS":[{"kty":"oct","kid":"a","k":"c2VjcmV0"}]}`,
-			`{"keys":[{"kty":"oct","kid":"a","k":"c2VjcmV0"},` + it + `],"\u212aeys":[]}`,
-		} {
-			if key, err := ParseJWKSet([]byte(set)); !isBlank(err) {
+		for _, set := range []string{`{"keys":[` + it + `]}`, `{"keys":[` + it + `],"KEYS":[{"kty":"oct","kid":"a","k":"c2VjcmV0"}]}`} {
+			if key, err := ParseJWKSet([]byte(set)); !isBlankSet(err) {
 				t.Errorf("%s: %v, %v", set, key, err)
 			}
+		}
+		if err := skippedIn(`{"keys":[{"kty":"oct","kid":"a","k":"c2VjcmV0"},` + it + `],"\u212aeys":[]}`); !isBlank(err) {
+			t.Errorf("%s: %v", it, err)
 		}
 	}
 	keys, blank := "["+jwkOf(secret)+"]", "["+jwkOf(nil)+"]"
@@ -109,7 +129,7 @@ func TestKeysThatAnyoneHas(t *testing.T) {
 		`{"keys":` + keys + `,"keys":` + blank + `}`,
 		`{"keys":` + keys + `,"\u006beys":` + blank + `}`,
 	} {
-		if key, err := ParseJWKSet([]byte(it)); !isBlank(err) {
+		if key, err := ParseJWKSet([]byte(it)); !isBlankSet(err) {
 			t.Errorf("%s: %v, %v", it, key, err)
 		}
 	}

@@ -19,9 +19,11 @@ import (
 // An exp, nbf or iat is a whole number of seconds from 1970 to the year 9999 (RFC 7519 section 2), such as NewNumericDate returns. Any
 // other value is ErrOption, such as null, milliseconds, or a time.Time in a map: verifiers do not read it, or read another time.
 func Sign(claims any, secret []byte, algorithm string, header map[string]any) (string, error) {
-	if err := checkSecret(secret); err != nil {
+	read, err := readKeys(fromSecret, secret) // which refuses a secret that others may have
+	if err != nil {
 		return "", err
 	}
+	read.free()
 	headerText, claimsText, err := parts(claims, algorithm, header)
 	if err != nil {
 		return "", err
@@ -61,22 +63,14 @@ func newSigningInput(algorithm string, header, claims []byte) (*SigningInput, er
 }
 
 // Token returns the token with this signature of the message. With ES256 and ES384 that is two numbers one after the other, which
-// ECDSASignature makes of a signature in DER. Its length is compared with that of the algorithm, and a wrong one is ErrOption: with RSA it
-// is that of a modulus of 2048 to 16384 bits, 256 to 2048 bytes. Whether the signature is right is left to those who verify the token.
+// ECDSASignature makes of a signature in DER. A signature of another length than the algorithm has is ErrOption. With RSA the length depends on
+// the key, and only an empty signature is ErrOption. Token does not verify the signature.
 func (in *SigningInput) Token(signature []byte) (string, error) {
 	if in == nil || in.header == nil {
 		return "", optionError("NewSigningInput did not make this SigningInput")
 	}
-	if isRSA(in.Algorithm) && (len(signature) < 256 || len(signature) > 2048) {
-		return "", optionError("a signature with %s has 256 to 2048 bytes, and not %d", in.Algorithm, len(signature))
-	}
 	token, err := encodeSignature(in.header, in.claims, Signature{in.Algorithm, in.Message, signature})
 	return string(token), err
-}
-
-// isRSA returns whether the signatures with an algorithm are as long as the modulus of a key, which the library does not know.
-func isRSA(algorithm string) bool {
-	return strings.HasPrefix(algorithm, "RS") || strings.HasPrefix(algorithm, "PS")
 }
 
 // ECDSASignature returns a signature with ES256 or ES384 in the form of a token, from one in DER, which crypto/ecdsa and a KMS make. Other

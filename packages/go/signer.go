@@ -45,6 +45,7 @@ type signing struct {
 	key       func() crypto.Signer // fmt shows the address of a func alone
 	algorithm string
 	form      crypto.SignerOpts
+	isDER     bool // a crypto.Signer with a key on a curve of ECDSA returns DER
 	header    []byte
 	jwk       []byte
 	verifying *handles
@@ -90,7 +91,7 @@ func WithHeader(name string, value any) SignerOption {
 // NewSigner returns a signer with a private key of RSA, P-256, P-384 or Ed25519 and an algorithm of it: RS256 to RS512 and PS256 to PS512,
 // ES256, ES384 or EdDSA. A crypto.Signer is a key of the standard library (ParsePrivatePEM reads one), or one that a KMS or an HSM keeps; it
 // has to serve several goroutines at once if the Signer does. A key that is nil or not complete, that is of another kind or curve, or an RSA
-// key of less than 2048 bits is ErrKey.
+// key of less than 2048 bits is ErrKey. Sign returns ErrOption if a member of the header is of another type than its name has.
 func NewSigner(key crypto.Signer, algorithm string, opts ...SignerOption) (*Signer, error) {
 	header, err := headerBy(algorithm, opts)
 	if err != nil {
@@ -104,18 +105,23 @@ func NewSigner(key crypto.Signer, algorithm string, opts ...SignerOption) (*Sign
 	if err != nil {
 		return nil, err
 	}
-	jwk, err := jwkOfPublic(public)
+	read, err := readPublic(public)
 	if err != nil {
 		return nil, err
 	}
-	verifying, err := signatureVerifier(newKey(singleKey, jwk), algorithm, header)
+	jwk, err := read.textAt(0)
 	if err != nil {
 		return nil, err
 	}
-	return &Signer{&signing{func() crypto.Signer { return key }, algorithm, form, header, jwk, verifying}}, nil
+	verifying, err := signatureVerifier(read, algorithm, header)
+	if err != nil {
+		return nil, err
+	}
+	_, isDER := public.(*ecdsa.PublicKey)
+	return &Signer{&signing{func() crypto.Signer { return key }, algorithm, form, isDER, header, jwk, verifying}}, nil
 }
 
-// headerBy returns the header of the tokens of a signer, if the library writes a signing input with it.
+// headerBy returns the header of the tokens of a signer.
 func headerBy(algorithm string, opts []SignerOption) ([]byte, error) {
 	members := map[string]any{}
 	for i, it := range opts {
@@ -126,12 +132,10 @@ func headerBy(algorithm string, opts []SignerOption) ([]byte, error) {
 			return nil, err
 		}
 	}
-	header, err := headerText(algorithm, members)
-	if err != nil {
-		return nil, err
+	if numberOf(algorithm) == 0 {
+		return nil, optionError("the algorithm %s is none of the twelve", quoted(algorithm))
 	}
-	_, err = newSigningInput(algorithm, header, []byte("{}"))
-	return header, err
+	return headerText(algorithm, members)
 }
 
 // publicOf returns the public key of a private key that can sign. The standard library panics for one that lacks a part.
@@ -164,11 +168,11 @@ func publicOf(key crypto.Signer) (public crypto.PublicKey, err error) {
 }
 
 // signatureVerifier returns handles that verify the signatures of tokens with this header by a public key.
-func signatureVerifier(public Key, algorithm string, header []byte) (*handles, error) {
+func signatureVerifier(public *keys, algorithm string, header []byte) (*handles, error) {
 	var members map[string]json.RawMessage
 	var crit []string
 	if json.Unmarshal(header, &members) == nil && members["crit"] != nil {
-		_ = json.Unmarshal(members["crit"], &crit) // the library took the header
+		_ = json.Unmarshal(members["crit"], &crit) // if it is not a list of names, Sign says so
 	}
 	no := false
 	options, err := json.Marshal(options{Algorithms: []string{algorithm}, Required: []string{}, ValidateExp: &no, ValidateNbf: &no, ValidateAud: &no, Crit: crit})
@@ -219,7 +223,7 @@ func (s *signing) sign(message []byte) ([]byte, error) {
 		message = digest.Sum(nil)
 	}
 	signature, err := s.key().Sign(rand.Reader, message, s.form)
-	if err != nil || s.algorithm[:2] != "ES" {
+	if err != nil || !s.isDER {
 		return signature, err
 	}
 	return ECDSASignature(signature, s.algorithm)

@@ -16,7 +16,6 @@ type Verifier struct{ made *verifying }
 type verifying struct {
 	asked    *options
 	options  []byte
-	key      Key
 	prepared preparedSize
 	set      *KeySet // nil for a key that stays
 	current  atomic.Pointer[handleSet]
@@ -62,8 +61,8 @@ func (Verifier) Format(state fmt.State, _ rune) {
 }
 
 // NewVerifier returns a verifier with a key, for these algorithms. They may be of several families, such as RS256, ES256 and EdDSA: in a set the
-// header's kid selects the key, and the key decides which of the algorithms apply. A key of a set is ignored if its alg is not listed. If no
-// key can verify with a listed algorithm, the error is ErrKey.
+// header's kid selects the key, and the key decides which of the algorithms apply. A key with an alg verifies with that algorithm alone, if it
+// is listed. If no key can verify with a listed algorithm, the error is ErrKey, whose text lists the skipped keys and why.
 func NewVerifier(key Key, algorithms []string, opts ...Option) (*Verifier, error) {
 	return newVerifier(key, algorithms, opts, forManyTokens)
 }
@@ -73,12 +72,14 @@ func newVerifier(key Key, algorithms []string, opts []Option, prepared preparedS
 	if err != nil {
 		return nil, err
 	}
-	if key.bytes == nil {
+	if key.keys == nil {
 		return nil, keyError("there is none")
 	}
-	made := &verifying{asked: asked, options: text, key: key, prepared: prepared}
+	made := &verifying{asked: asked, options: text, prepared: prepared}
 	if key.set != nil {
 		made.set = key.set()
+	} else {
+		made.current.Store(newHandleSet(nil, key.keys(), text, prepared))
 	}
 	switch it := made.latest(); {
 	case errors.Is(it.err, ErrOption):
@@ -138,7 +139,7 @@ func (v *verifying) verifyBy(by *handleSet, token string) (*Token, error) {
 // mayHaveLaterKey returns whether a token names a key that the set does not have. A set without a key for the algorithms has no key of
 // the token either.
 func mayHaveLaterKey(token string, err error) bool {
-	if !isStatus(err, noKey) && !isStatus(err, unfitKey) {
+	if !isStatus(err, noKey) && !isStatus(err, noUsableKey) {
 		return false
 	}
 	header, err := unverified(token, headerPart)
@@ -152,17 +153,13 @@ func mayHaveLaterKey(token string, err error) bool {
 // latest returns the handles for the last set that was fetched, or for a key that stays.
 func (v *verifying) latest() *handleSet {
 	it := v.current.Load()
-	if it != nil && (v.set == nil || it.set == v.set.current.Load()) {
+	if v.set == nil || it != nil && it.set == v.set.current.Load() {
 		return it
 	}
-	switch {
-	case v.set == nil:
-		it = newHandleSet(nil, v.key, v.options, v.prepared)
-	case v.prepared == forOneToken:
-		set := v.set.current.Load()
-		it = newHandleSet(set, set.key, v.options, v.prepared)
-	default:
-		it = v.set.current.Load().handles(v.options)
+	if set := v.set.current.Load(); v.prepared == forOneToken {
+		it = newHandleSet(set, set.keys, v.options, v.prepared)
+	} else {
+		it = set.handles(v.options)
 	}
 	if !errors.Is(it.err, ErrOutOfMemory) {
 		v.current.Store(it)
@@ -170,11 +167,11 @@ func (v *verifying) latest() *handleSet {
 	return it
 }
 
-// newHandleSet returns handles of a key, or of the set that the key is.
-func newHandleSet(set *fetched, key Key, options []byte, prepared preparedSize) *handleSet {
+// newHandleSet returns handles of keys, or of the set that the keys are of.
+func newHandleSet(set *fetched, by *keys, options []byte, prepared preparedSize) *handleSet {
 	it := &handleSet{set: set}
-	it.handles, it.err = newHandles(key, options, defaultLength, prepared)
-	if set != nil && set.isEmpty && isStatus(it.err, unfitKey) {
+	it.handles, it.err = newHandles(by, options, defaultLength, prepared)
+	if set != nil && set.isEmpty && isStatus(it.err, noUsableKey) {
 		it.err = &joinedError{ErrFetch, it.err, errNotFetched.Error()}
 	}
 	return it
@@ -186,8 +183,8 @@ func isStatus(err error, status uint32) bool {
 	return errors.As(err, &refused) && refused.Status == status
 }
 
-func newHandles(key Key, options []byte, longest tokenLength, prepared preparedSize) (*handles, error) {
-	first, err := newHandle(key, options, longest, prepared)
+func newHandles(by *keys, options []byte, longest tokenLength, prepared preparedSize) (*handles, error) {
+	first, err := newHandle(by, options, longest, prepared)
 	if err != nil {
 		return nil, err
 	}

@@ -37,7 +37,8 @@ func main() {
 			keys.Store(keys.Load().rotated())
 		}
 	}()
-	set := must(jwt.FetchKeySet(context.Background(), issuer+"/keys", nil, jwt.WithLazyStart(), jwt.WithRefetch(time.Second)))
+	skipped := jwt.WithSkippedKeys(func(it jwt.SkippedKey) { log.Print(it) })
+	set := must(jwt.FetchKeySet(context.Background(), issuer+"/keys", nil, jwt.WithLazyStart(), jwt.WithRefetch(time.Second), skipped))
 	verifier := must(jwt.NewVerifier(set.Key(), []string{"RS256"}, jwt.WithAudience("web"), jwt.WithIssuer(issuer)))
 	protect := must(jwt.Middleware(verifier, jwt.WithClaims[jwt.RegisteredClaims](), jwt.WithLog(func(_ *http.Request, err error) { log.Print(err) })))
 	http.HandleFunc("/keys", func(to http.ResponseWriter, _ *http.Request) {
