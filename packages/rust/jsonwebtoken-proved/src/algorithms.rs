@@ -103,6 +103,11 @@ impl Algorithm {
         calls::algorithm(&self.to_string())
     }
 
+    /// Returns the algorithm's bit among those with which a key verifies.
+    pub(crate) fn bit(self) -> u32 {
+        1 << self.number()
+    }
+
     pub(crate) fn from_number(number: u32) -> Result<Algorithm, Error> {
         calls::text_of(Of::Algorithm, number).map_err(Error::from_status)?.parse()
     }

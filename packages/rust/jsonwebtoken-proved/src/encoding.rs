@@ -3,6 +3,7 @@
 use crate::base64::{self, STANDARD, URL_SAFE};
 use crate::errors::{Error, ErrorKind, Result};
 use crate::library::calls;
+use crate::library::keys::{Keys, Source};
 use crate::{AlgorithmFamily, Header, SigningInput, pem, signing};
 use serde::Serialize;
 use std::fmt;
@@ -14,11 +15,13 @@ use std::fmt;
 pub struct EncodingKey {
     family: AlgorithmFamily,
     bytes: Vec<u8>,
+    /// The status with which the library refuses the secret, if it does.
+    refused: Option<u32>,
 }
 
 impl EncodingKey {
     fn new(family: AlgorithmFamily, bytes: &[u8]) -> EncodingKey {
-        EncodingKey { family, bytes: bytes.to_vec() }
+        EncodingKey { family, bytes: bytes.to_vec(), refused: None }
     }
 
     /// Returns the family of algorithms that the key is for.
@@ -30,7 +33,9 @@ impl EncodingKey {
     /// Returns a secret as a key, for HS256, HS384 and HS512.
     #[must_use]
     pub fn from_secret(secret: &[u8]) -> Self {
-        EncodingKey::new(AlgorithmFamily::Hmac, secret)
+        let mut key = EncodingKey::new(AlgorithmFamily::Hmac, secret);
+        key.refused = Keys::new(Source::Secret, secret).err();
+        key
     }
 
     /// Returns a secret as a key, from base64 with padding.
@@ -111,7 +116,10 @@ impl Drop for EncodingKey {
 
 impl fmt::Debug for EncodingKey {
     fn fmt(&self, f: &mut fmt::Formatter<'_>) -> fmt::Result {
-        f.debug_struct("EncodingKey").field("family", &self.family).field("bytes", &"[redacted]").finish()
+        f.debug_struct("EncodingKey")
+            .field("family", &self.family)
+            .field("bytes", &"[redacted]")
+            .finish_non_exhaustive()
     }
 }
 
@@ -146,7 +154,9 @@ pub fn encode<T: Serialize>(header: &Header, claims: &T, key: &EncodingKey) -> R
         let input = SigningInput::new(header, claims)?;
         return input.encode_verified(&signing::sign(key, header.alg, input.message())?, &signing::verifying_key(key)?);
     }
-    calls::check_secret(&key.bytes).map_err(Error::from_key_status)?;
+    if let Some(status) = key.refused {
+        return Err(Error::from_key_status(status));
+    }
     let [header, claims] = [serde_json::to_string(header)?, serde_json::to_string(claims)?];
     calls::encode(&header, &claims, &key.bytes).map_err(Error::from_issue_status)
 }

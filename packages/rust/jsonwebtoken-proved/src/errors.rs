@@ -2,6 +2,7 @@
 
 use crate::base64::Base64Error;
 use crate::library::calls::{self, Of};
+use crate::library::keys::{self, SkippedKey};
 use crate::status;
 use serde::de::Error as _;
 use std::error::Error as StdError;
@@ -81,7 +82,27 @@ impl Error {
         }
         .into()
     }
+
+    /// Returns the error of a status of a call that reads a key set.
+    pub(crate) fn from_set_status(status: u32) -> Error {
+        match status {
+            status::BAD_KEY => ErrorKind::UnusableKey(NOT_A_SET.to_string()).into(),
+            _ => Error::from_key_status(status),
+        }
+    }
+
+    /// Returns the error of a status of the call that makes a verifier of keys, of which these are skipped.
+    pub(crate) fn from_verifier_status(status: u32, skipped: &[SkippedKey]) -> Error {
+        if status != status::NO_USABLE_KEY {
+            return Error::from_key_status(status);
+        }
+        let why = format!("{}, and of a set only keys with a kid count", text_of(status));
+        let reasons = keys::reasons(skipped);
+        ErrorKind::UnusableKey(if skipped.is_empty() { why } else { format!("{why}; {reasons}") }).into()
+    }
 }
+
+const NOT_A_SET: &str = "it is not a JSON Web Key Set; DecodingKey reads one key, as JSON or PEM";
 
 fn text_of(status: u32) -> String {
     calls::text_of(Of::Status, status).unwrap_or_default()
@@ -130,12 +151,12 @@ fn kind_of(status: u32) -> ErrorKind {
         status::TOKEN_TOO_LONG => ErrorKind::TokenTooLong,
         status::OUT_OF_MEMORY => ErrorKind::OutOfMemory,
         status::CLOCK_BEFORE_EPOCH => ErrorKind::ClockBeforeEpoch,
-        status::BAD_SET | status::BAD_KEY | status::ALL_ZERO_SECRET | status::KEY_AS_SECRET => {
-            ErrorKind::UnusableKey(text_of(status))
-        }
-        status::NO_USABLE_KEY => {
-            ErrorKind::UnusableKey(format!("{}, and of a set only keys with a kid count", text_of(status)))
-        }
+        status::BAD_KEY
+        | status::ALL_ZERO_SECRET
+        | status::KEY_AS_SECRET
+        | status::NOT_FOR_SIGNATURES
+        | status::IS_CERTIFICATE
+        | status::UNFIT_KEY => ErrorKind::UnusableKey(text_of(status)),
         status::BUFFER_TOO_SMALL.. => ErrorKind::InvalidArgument(text_of(status)),
         _ => ErrorKind::InvalidToken,
     }

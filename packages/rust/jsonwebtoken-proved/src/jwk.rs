@@ -5,7 +5,7 @@
 use crate::base64::{self, URL_SAFE};
 use crate::errors::{Error, ErrorKind, Result};
 use crate::header::names;
-use crate::library::calls;
+use crate::library::keys::{KeyText, Keys, Source};
 use crate::signing;
 use crate::{Algorithm, AlgorithmFamily, DecodingKey, DecodingKeyKind, EncodingKey};
 use serde::{Deserialize, Serialize};
@@ -392,16 +392,10 @@ impl Jwk {
         if alg.map_or(false, |it| it.family() != key.family()) {
             return Err(ErrorKind::InvalidAlgorithm.into());
         }
-        let mut jwk: Jwk = match key.material()? {
-            (calls::Kind::Secret, secret) => {
-                let value = base64::encode(secret, URL_SAFE);
-                let algorithm = OctetKeyParameters { key_type: OctetKeyType::Octet, value };
-                Jwk { common: CommonParameters::default(), algorithm: AlgorithmParameters::OctetKey(algorithm) }
-            }
-            (_, text) => serde_json::from_slice(text)?,
-        };
-        jwk.common.key_algorithm = alg.map(KeyAlgorithm::from);
-        Ok(jwk)
+        let text = key.keys()?.text().map_err(Error::from_key_status)?;
+        let algorithm = serde_json::from_slice(&text.0)?;
+        let common = CommonParameters { key_algorithm: alg.map(KeyAlgorithm::from), ..CommonParameters::default() };
+        Ok(Jwk { common, algorithm })
     }
 
     /// Returns the thumbprint of the key (RFC 7638).
@@ -417,7 +411,9 @@ impl Jwk {
             ThumbprintHash::SHA384 => 384,
             ThumbprintHash::SHA512 => 512,
         };
-        calls::thumbprint(&serde_json::to_string(self)?, bits).map_err(Error::from_key_status)
+        // a key of a set has a thumbprint also if no token is verified with it
+        let set = KeyText(serde_json::to_vec(&BTreeMap::from([("keys", [self])]))?);
+        Keys::new(Source::Text, &set.0).and_then(|it| it.thumbprint(bits)).map_err(Error::from_key_status)
     }
 }
 

@@ -1,10 +1,9 @@
 //! A set of keys that is fetched, and fetched again as its keys rotate.
 
 use crate::errors::{Cause, Error, ErrorKind, Result};
-use crate::library::calls::Kind;
-use crate::library::handle::{Handle, Use};
+use crate::library::keys::{Keys, SkippedKey, Source};
 use crate::validation::{self, argument};
-use crate::{Algorithm, Refusal, Validation, Verified, Verifier, decode_header};
+use crate::{Refusal, Validation, Verified, Verifier, decode_header, status};
 use serde::de::DeserializeOwned;
 use std::error::Error as StdError;
 use std::fmt;
@@ -16,6 +15,9 @@ use std::time::{Duration, Instant};
 
 /// What verifying a token gives.
 type Answer<T> = std::result::Result<Verified<T>, Refusal>;
+
+/// What is called with the skipped keys of a set.
+type Report = Arc<dyn Fn(&[SkippedKey]) + Send + Sync>;
 
 /// How many bytes a set may have.
 const LARGEST: u64 = 1 << 20;
@@ -91,6 +93,8 @@ struct State {
     waiting: usize,
     /// What is called at its end.
     told: Vec<Box<dyn FnOnce() + Send>>,
+    /// What is called with the skipped keys of each set.
+    report: Option<Report>,
     is_closed: bool,
 }
 
@@ -103,6 +107,7 @@ impl State {
 /// A set that is usable.
 struct Fetched {
     text: Arc<str>,
+    keys: Keys,
     /// The verifiers by the last conditions that were asked for.
     verifiers: Mutex<Vec<(Validation, Arc<Made>)>>,
 }
@@ -118,7 +123,7 @@ impl Fetched {
         if let Some(known) = &*made {
             return known.clone();
         }
-        let verifier = Verifier::of_fetched(&self.text, validation).map(Arc::new);
+        let verifier = Verifier::of_fetched(&self.keys, validation).map(Arc::new);
         if !matches!(&verifier, Err(error) if *error.kind() == ErrorKind::OutOfMemory) {
             *made = Some(verifier.clone());
         }
@@ -153,6 +158,14 @@ impl Fetched {
     fn decode_json(&self, token: &[u8], validation: &Validation, now: u64) -> Answer<String> {
         self.verifier(validation)?.decode_json(token, now)
     }
+
+    /// Calls what is called with the skipped keys, if there are any.
+    fn report(&self, report: &Report) {
+        if !self.keys.skipped().is_empty() {
+            // a panic of it is no reason to fetch no more
+            drop(catch_unwind(AssertUnwindSafe(|| report(self.keys.skipped()))));
+        }
+    }
 }
 
 impl KeySet {
@@ -160,8 +173,9 @@ impl KeySet {
     ///
     /// # Errors
     ///
-    /// If the closure fails, or takes longer than the timeout, or the text has more than 1 MiB, this is [`ErrorKind::Fetch`]; if the text
-    /// is no set with a key by which tokens are verified, [`ErrorKind::UnusableKey`]; a time of 0 is [`ErrorKind::InvalidArgument`].
+    /// If the closure fails, or takes longer than the timeout, or the text has more than 1 MiB, this is [`ErrorKind::Fetch`]. If the text is
+    /// not a key set, or no key with a `kid` verifies tokens, this is [`ErrorKind::UnusableKey`], whose text lists the reasons. A time of 0
+    /// is [`ErrorKind::InvalidArgument`].
     pub fn new<R: Read, E: Into<Box<dyn StdError + Send + Sync>>>(
         fetch: impl FnMut() -> std::result::Result<R, E> + Send + 'static,
         rotation: Rotation,
@@ -246,6 +260,26 @@ impl KeySet {
             return Err(ErrorKind::Fetching.into());
         }
         Ok(())
+    }
+
+    /// Logs skipped keys: calls a closure with the skipped keys of the current set, and, in the thread of the set, with the skipped keys
+    /// of each later set. A set without skipped keys causes no call. A later closure replaces an earlier one.
+    ///
+    /// ```no_run
+    /// # use jsonwebtoken_proved::KeySet;
+    /// # fn log(keys: &KeySet) {
+    /// keys.when_skipped(|skipped| skipped.iter().for_each(|it| eprintln!("{it}")));
+    /// # }
+    /// ```
+    pub fn when_skipped(&self, report: impl Fn(&[SkippedKey]) + Send + Sync + 'static) {
+        let report: Report = Arc::new(report);
+        let mut state = self.shared.lock();
+        state.report = Some(Arc::clone(&report));
+        let current = state.current.clone();
+        drop(state);
+        if let Some(fetched) = current {
+            fetched.report(&report);
+        }
     }
 
     fn decoded(&self, token: &[u8], validation: &Validation, now: u64, waiters: usize) -> Answer<String> {
@@ -353,8 +387,11 @@ impl Shared {
 
     fn end(&self, found: Result<Arc<Fetched>>) {
         let mut state = self.lock();
+        let mut reported = None;
         match found {
             Ok(fetched) => {
+                let is_new = state.current.as_ref().map_or(true, |it| !Arc::ptr_eq(it, &fetched));
+                reported = state.report.clone().filter(|_| is_new).map(|it| (it, Arc::clone(&fetched)));
                 state.current = Some(fetched);
                 state.failure = None;
             }
@@ -371,6 +408,9 @@ impl Shared {
         for then in told {
             // a panic of one is no reason to fetch no more
             drop(catch_unwind(AssertUnwindSafe(then)));
+        }
+        if let Some((report, fetched)) = reported {
+            fetched.report(&report);
         }
     }
 }
@@ -418,9 +458,11 @@ fn usable(text: &str, before: Option<&Arc<Fetched>>) -> Result<Arc<Fetched>> {
     if let Some(same) = before.filter(|it| *it.text == *text) {
         return Ok(Arc::clone(same));
     }
-    let options = serde_json::json!({ "algorithms": Algorithm::ALL }).to_string();
-    Handle::new(Kind::Set, text.as_bytes(), &options, 0, Use::Once).map_err(Error::from_key_status)?;
-    let found = Fetched { text: Arc::from(text), verifiers: Mutex::default() };
+    let keys = Keys::new(Source::Set, text.as_bytes()).map_err(Error::from_set_status)?;
+    if !keys.are_usable() {
+        return Err(Error::from_verifier_status(status::NO_USABLE_KEY, keys.skipped()));
+    }
+    let found = Fetched { text: Arc::from(text), keys, verifiers: Mutex::default() };
     if let Some(before) = before {
         found.prepare(before);
     }

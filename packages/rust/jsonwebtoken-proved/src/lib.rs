@@ -16,7 +16,7 @@
 //! ```
 //!
 //! Beyond that crate, a [`Verifier`] reads a key, or a key set with keys of several families, and a [`Validation`] once, and verifies many
-//! tokens; a [`KeySet`] fetches keys that rotate; [`Validation::strict`] leaves out the leeway and checks `nbf`; and [`SigningInput`] and [`decode_by_verdict`] take signatures
+//! tokens; a [`KeySet`] fetches keys that rotate, and reports each [`SkippedKey`]; [`Validation::strict`] leaves out the leeway and checks `nbf`; and [`SigningInput`] and [`decode_by_verdict`] take signatures
 //! that are made or checked elsewhere.
 #![warn(missing_docs, clippy::pedantic)]
 // names such as EdDSA stand as in the standards, and those of types and calls as in the crate jsonwebtoken
@@ -49,6 +49,7 @@ pub use decoding::{DecodingKey, DecodingKeyKind, TokenData, decode, decode_heade
 pub use encoding::{EncodingKey, encode};
 pub use header::{Enc, Extras, Header, Zip};
 pub use keyset::{KeySet, Rotation};
+pub use library::keys::SkippedKey;
 pub use signature::{
     SignedPart, Signer, SigningInput, Verdict, decode_by_verdict, ecdsa_signature, encode_with, signed_part,
 };

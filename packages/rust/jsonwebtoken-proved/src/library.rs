@@ -4,3 +4,4 @@
 pub mod calls;
 mod declared;
 pub mod handle;
+pub mod keys;

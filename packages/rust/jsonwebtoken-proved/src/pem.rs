@@ -22,14 +22,6 @@ pub fn first(text: &[u8]) -> Option<Block> {
     Some(Block { label: label.to_string(), der: base64::decode(&digits, STANDARD).ok()? })
 }
 
-/// Returns the block of these bytes, in lines of 64 characters.
-pub fn write(label: &str, der: &[u8]) -> String {
-    let mut digits = base64::encode(der, STANDARD);
-    digits.push_str(&"=".repeat((4 - digits.len() % 4) % 4));
-    let lines: Vec<&str> = (0..digits.len()).step_by(64).map(|at| &digits[at..digits.len().min(at + 64)]).collect();
-    format!("-----BEGIN {label}-----\n{}\n-----END {label}-----\n", lines.join("\n"))
-}
-
 /// Returns the content of the element at the front, if it has this tag, and what follows it.
 pub fn element(der: &[u8], tag: u8) -> Option<(&[u8], &[u8])> {
     let (first, rest) = der.split_first()?;
@@ -78,19 +70,18 @@ pub fn seed(der: &[u8]) -> Option<&[u8]> {
 
 #[cfg(test)]
 mod tests {
-    use super::{element, first, write};
+    use super::{element, first};
 
+    /// RFC 4648 section 10 has the bytes of the digits.
     #[test]
     fn blocks() {
-        let der: Vec<u8> = (0..100).collect();
-        let text = write("X", &der);
-        assert!(text.lines().all(|it| it.len() <= 64));
-        for text in [text.clone(), format!("note\n{text}"), text.replace('\n', "\r\n"), text.replace('\n', " \n")] {
+        let text = "-----BEGIN X-----\nZm9v\nYmFy\n-----END X-----\n";
+        let others =
+            [format!("note\n{text}"), text.replace('\n', "\r\n"), text.replace('\n', " \n"), text.replace('\n', "")];
+        for text in others.iter().map(String::as_str).chain([text]) {
             let block = first(text.as_bytes()).unwrap();
-            assert_eq!((block.label.as_str(), &block.der), ("X", &der));
+            assert_eq!((block.label.as_str(), block.der.as_slice()), ("X", &b"foobar"[..]));
         }
-        let one_line = format!("-----BEGIN X-----{}-----END X-----", text.lines().nth(1).unwrap());
-        assert_eq!(first(one_line.as_bytes()).unwrap().der, der[..48]);
         for wrong in
             ["", "-----BEGIN X-----", "-----BEGIN X-----AAAA-----END Y-----", "-----BEGIN X-----A-----END X-----"]
         {

@@ -65,13 +65,14 @@ pub fn decode_by_verdict<T: DeserializeOwned>(
 
 /// Returns whether a signature is that of a message by a key.
 pub(crate) fn is_accepted(key: &DecodingKey, algorithm: Algorithm, message: &[u8], signature: &[u8]) -> Result<bool> {
-    let (kind, text) = key.material()?;
-    match calls::verify_signature(kind, text, Signed { algorithm: algorithm.number(), message, signature }) {
+    let keys = key.keys()?;
+    if keys.verifies() & algorithm.bit() == 0 {
+        return Err(ErrorKind::UnusableKey(format!("it does not verify with {algorithm}")).into());
+    }
+    let text = keys.text().map_err(Error::from_key_status)?;
+    match calls::verify_signature(&text.0, Signed { algorithm: algorithm.number(), message, signature }) {
         Ok(()) => Ok(true),
         Err(status::INVALID_SIGNATURE) => Ok(false),
-        Err(status::INVALID_KEY_FORMAT) => {
-            Err(ErrorKind::UnusableKey(format!("it does not verify with {algorithm}")).into())
-        }
         Err(status) => Err(Error::from_key_status(status)),
     }
 }

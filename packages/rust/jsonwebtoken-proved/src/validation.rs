@@ -218,8 +218,9 @@ pub(crate) fn argument(why: impl Into<String>) -> Error {
 mod tests {
     use super::{Algorithm, ErrorKind, Validation, get_current_timestamp, seconds_of};
     use crate::errors::Error;
-    use crate::library::calls::{Kind, encode};
-    use crate::library::handle::{Handle, Use};
+    use crate::library::calls::encode;
+    use crate::library::handle::Use;
+    use crate::library::keys::{Keys, Source};
     use std::time::{Duration, UNIX_EPOCH};
 
     /// RFC 7519 sections 4.1.4 and 4.1.5, and that claims that are asked for are required.
@@ -242,11 +243,11 @@ mod tests {
             (r#"{"aud":"web","exp":2000}"#, 0, Some(missing("iss"))),
             (r#"{"aud":"app","exp":2000,"iss":"i"}"#, 0, Some(ErrorKind::InvalidAudience)),
         ];
+        let keys = Keys::new(Source::Secret, SECRET).unwrap();
         for (claims, now, wanted) in rows {
             let token = encode(r#"{"alg":"HS256"}"#, claims, SECRET).unwrap();
             for options in [ours.as_str(), of_the_library] {
-                let answer =
-                    Handle::new(Kind::Secret, SECRET, options, 0, Use::Once).unwrap().decode(token.as_bytes(), now);
+                let answer = keys.verifier(options, 0, Use::Once).unwrap().decode(token.as_bytes(), now);
                 assert_eq!(
                     answer.err().map(|it| Error::from_status(it.status).into_kind()),
                     wanted,

@@ -1,10 +1,11 @@
 //! Keys and conditions that are read once, and verify many tokens.
 
-use crate::errors::{Error, Result};
-use crate::library::calls::{self, Kind, Of};
+use crate::errors::{Error, ErrorKind, Result};
+use crate::library::calls::{self, Of};
 use crate::library::handle::{Handle, TokenRefusal, Use};
+use crate::library::keys::{Keys, SkippedKey, Source};
 use crate::validation::{self, argument};
-use crate::{DecodingKey, Header, TokenData, Validation, decode_header};
+use crate::{DecodingKey, Header, TokenData, Validation, decode_header, status};
 use serde::de::DeserializeOwned;
 use std::fmt;
 use std::sync::{Mutex, MutexGuard, PoisonError};
@@ -62,7 +63,12 @@ impl From<Refusal> for Error {
 
 impl From<TokenRefusal> for Refusal {
     fn from(refusal: TokenRefusal) -> Refusal {
-        Refusal { error: Error::from_status(refusal.status), test: refusal.test }
+        let error = match refusal.status {
+            // no algorithm is of the family of the key that the token names
+            status::INVALID_KEY_FORMAT => ErrorKind::InvalidAlgorithm.into(),
+            status => Error::from_status(status),
+        };
+        Refusal { error, test: refusal.test }
     }
 }
 
@@ -100,6 +106,7 @@ impl std::error::Error for Refusal {
 /// ```
 pub struct Verifier {
     readers: Mutex<Readers>,
+    skipped: Vec<SkippedKey>,
 }
 
 /// Handles of the library with the same keys and options. Each call has one, shared from the first and kept for the next call.
@@ -159,7 +166,8 @@ impl Verifier {
     }
 
     /// Returns the verifier of a JSON Web Key Set (RFC 7517 section 5) and conditions. The token's `kid` selects the key. A key with an
-    /// `alg` verifies tokens of that algorithm alone.
+    /// `alg` verifies tokens of that algorithm alone. A key with which the library can't verify is skipped: log
+    /// [`Verifier::skipped`].
     ///
     /// ```
     /// use jsonwebtoken_proved::{Algorithm, Validation, Verifier};
@@ -173,10 +181,19 @@ impl Verifier {
     ///
     /// # Errors
     ///
-    /// It returns the errors of [`Verifier::new`]. If the set can't be read, or no key with a `kid` fits an algorithm, this is
-    /// [`ErrorKind::UnusableKey`](crate::errors::ErrorKind::UnusableKey).
+    /// It returns the errors of [`Verifier::new`]. If no key with a `kid` fits an algorithm, this is
+    /// [`ErrorKind::UnusableKey`](crate::errors::ErrorKind::UnusableKey), whose text has the reasons for which keys are skipped. A text that
+    /// is not a key set is `UnusableKey` too. For one key, call [`Verifier::new`] with a [`DecodingKey`].
     pub fn from_jwk_set(set: &str, validation: &Validation) -> Result<Verifier> {
-        Verifier::made(Kind::Set, set.as_bytes(), validation, 0, Use::Often)
+        let keys = Keys::new(Source::Set, set.as_bytes()).map_err(Error::from_set_status)?;
+        let verifier = Verifier::made(&keys, validation, 0, Use::Often)?;
+        Ok(Verifier { skipped: keys.into_skipped(), ..verifier })
+    }
+
+    /// Returns the keys that [`Verifier::from_jwk_set`] has skipped, in the order of the set.
+    #[must_use]
+    pub fn skipped(&self) -> &[SkippedKey] {
+        &self.skipped
     }
 
     /// Returns the verifier of a key and conditions like [`Verifier::new`], for tokens of at most `longest` bytes. Reading a token
@@ -190,25 +207,23 @@ impl Verifier {
         if longest == 0 {
             return Err(argument("longest is 0"));
         }
-        let (kind, text) = key.material()?;
-        Verifier::made(kind, text, validation, longest, Use::Often)
+        Verifier::made(key.keys()?, validation, longest, Use::Often)
     }
 
     /// Returns the verifier of a key and conditions like [`Verifier::new`], for this use.
     pub(crate) fn planned(key: &DecodingKey, validation: &Validation, planned: Use) -> Result<Verifier> {
-        let (kind, text) = key.material()?;
-        Verifier::made(kind, text, validation, 0, planned)
+        Verifier::made(key.keys()?, validation, 0, planned)
     }
 
     /// Returns the verifier of a fetched set and conditions.
-    pub(crate) fn of_fetched(set: &str, validation: &Validation) -> Result<Verifier> {
-        Verifier::made(Kind::Set, set.as_bytes(), validation, 0, Use::Fetched)
+    pub(crate) fn of_fetched(set: &Keys, validation: &Validation) -> Result<Verifier> {
+        Verifier::made(set, validation, 0, Use::Fetched)
     }
 
-    fn made(kind: Kind, key: &[u8], validation: &Validation, longest: usize, planned: Use) -> Result<Verifier> {
-        let made = Handle::new(kind, key, &validation.options()?, longest, planned);
-        let first = made.map_err(Error::from_key_status)?;
-        Ok(Verifier { readers: Mutex::new(Readers { first, idle: Vec::new() }) })
+    fn made(keys: &Keys, validation: &Validation, longest: usize, planned: Use) -> Result<Verifier> {
+        let made = keys.verifier(&validation.options()?, longest, planned);
+        let first = made.map_err(|it| Error::from_verifier_status(it, keys.skipped()))?;
+        Ok(Verifier { readers: Mutex::new(Readers { first, idle: Vec::new() }), skipped: Vec::new() })
     }
 
     /// Verifies a token at the time of the system's clock, and returns its claims.

@@ -138,6 +138,10 @@ fn keys_of_numbers() {
         assert_eq!(jwk.thumbprint(hash).unwrap(), wanted);
     }
     assert_eq!(Jwk::from_decoding_key(&ed, Some(Algorithm::ES256)).unwrap_err().kind(), &ErrorKind::InvalidAlgorithm);
+    // a key that verifies no token has a thumbprint too
+    let common = CommonParameters { public_key_use: Some(PublicKeyUse::Encryption), ..CommonParameters::default() };
+    let enc = Jwk { common, ..jwk };
+    assert_eq!(enc.thumbprint(ThumbprintHash::SHA256).unwrap(), "kPrK_qmxVWaYVA9wwBF6Iuo3vVzz7TxHCTwXBygrS4k");
     assert_eq!(DecodingKey::from_ed_der(&[1; 32]).family(), AlgorithmFamily::Ed);
     assert_eq!(DecodingKey::from_ec_der(&[4; 65]).family(), AlgorithmFamily::Ec);
     assert_eq!(DecodingKey::from_rsa_der(&[]).family(), AlgorithmFamily::Rsa);
@@ -191,33 +195,38 @@ fn json_web_keys() {
     let set = JwkSet { keys: read.clone() };
     assert_eq!((set.find("b"), set.find("c")), (Some(&read[5]), None));
     assert_eq!(DecodingKey::from_jwk(&read[5]).unwrap_err().kind(), &ErrorKind::UnsupportedAlgorithm);
+    assert_eq!(read[5].thumbprint(ThumbprintHash::SHA256), Err(ErrorKind::UnsupportedAlgorithm.into()));
     assert_eq!(HashSet::from([read[0].clone(), read[0].clone(), read[5].clone()]).len(), 2);
     let unknown: Jwk = serde_json::from_value(json!({"kty": "oct", "k": "AA", "alg": "ES256K"})).unwrap();
     assert_eq!(unknown.common.key_algorithm, Some(KeyAlgorithm::UNKNOWN_ALGORITHM));
     assert!(serde_json::from_value::<Jwk>(json!({"kty": "oct", "k": "AA", "kid": 5})).is_err());
 }
 
-/// The library reads a key; one that fits no algorithm, or a secret that others may know, is refused when it is used.
+/// The library reads a key, and refuses one with which it can't verify, and a secret that others may know.
 #[test]
 fn keys_of_json_web_keys() {
     let x = "f83OJ3D2xF1Bg8vub9tLe1gHMzV76e8Tus9uPHvRVEU"; // RFC 7515 appendix A.3.1
     let made = [
-        (json!({"kty": "oct", "k": "MDEyMzQ1Njc4OWFiY2RlZjAxMjM0NTY3ODlhYmNkZWY", "alg": "RS256"}), None),
-        (json!({"kty": "oct", "k": "AAAA"}), Some("Secret is empty or all zeros")),
-        (json!({"kty": "oct", "k": "c3NoLXJzYSBBQUFB"}), Some("is the text of a key")), // ssh-rsa AAAA
-        (json!({"kty": "EC", "crv": "P-256", "x": x, "y": x}), Some("No key fits the algorithms")),
-        (json!({"kty": "RSA", "n": "AQAB", "e": "AQAB"}), Some("No key fits the algorithms")),
-        (json!({"kty": "OKP", "crv": "Ed25519", "x": "AQAB"}), Some("No key fits the algorithms")),
+        json!({"kty": "oct", "k": "MDEyMzQ1Njc4OWFiY2RlZjAxMjM0NTY3ODlhYmNkZWY", "alg": "HS512", "kid": "a"}),
+        // RFC 8037 appendix A.2
+        json!({"kty": "OKP", "crv": "Ed25519", "x": "11qYAYKxCrfVS_7TyWQHOg7hcvPapiMlrwIaaPcHURo", "use": "sig"}),
     ];
-    for (text, why) in made {
+    for text in made {
         let jwk: Jwk = serde_json::from_value(text.clone()).unwrap();
         let key = DecodingKey::from_jwk(&jwk).unwrap();
-        let refused = jsonwebtoken::Verifier::new(&key, &Validation::new_for_family(key.family())).err();
-        assert_eq!(refused.is_some(), why.is_some(), "{text}");
-        assert!(refused.map_or(true, |it| it.to_string().contains(why.unwrap_or_default())), "{text}");
-        assert!(Jwk::from_decoding_key(&key, None).map_or(true, |it| it.algorithm == jwk.algorithm), "{text}");
+        assert!(jsonwebtoken::Verifier::new(&key, &Validation::new_for_family(key.family())).is_ok(), "{text}");
+        let common = CommonParameters::default();
+        assert_eq!(Jwk::from_decoding_key(&key, None), Ok(Jwk { common, algorithm: jwk.algorithm }), "{text}");
     }
     let refused = [
+        (json!({"kty": "oct", "k": "AAAA"}), "the key does not serve: Secret is empty or all zeros"),
+        // ssh-rsa AAAA
+        (json!({"kty": "oct", "k": "c3NoLXJzYSBBQUFB"}), "the key does not serve: Secret is the text of a key"),
+        (json!({"kty": "oct", "k": "MDEyMzQ1", "alg": "RS256"}), "the key does not serve: "),
+        (json!({"kty": "oct", "k": "MDEyMzQ1", "use": "enc"}), "the key does not serve: "),
+        (json!({"kty": "EC", "crv": "P-256", "x": x, "y": x}), "the key does not serve: "),
+        (json!({"kty": "RSA", "n": "AQAB", "e": "AQAB"}), "the key does not serve: "),
+        (json!({"kty": "OKP", "crv": "Ed25519", "x": "AQAB"}), "the key does not serve: "),
         (json!({"kty": "oct", "k": "+/"}), "a text is not base64"),
         (json!({"kty": "RSA", "n": "AQAB", "e": "AQ=B"}), "a text is not base64"),
         (json!({"kty": "EC", "crv": "P-256", "x": "A", "y": "AQAB"}), "a text is not base64"),
@@ -228,7 +237,8 @@ fn keys_of_json_web_keys() {
     ];
     for (text, wanted) in refused {
         let jwk: Jwk = serde_json::from_value(text.clone()).unwrap();
-        assert_eq!(DecodingKey::from_jwk(&jwk).unwrap_err().to_string(), wanted, "{text}");
+        let refused = DecodingKey::from_jwk(&jwk).unwrap_err().to_string();
+        assert!(refused.starts_with(wanted), "{refused} {text}");
     }
 }
 

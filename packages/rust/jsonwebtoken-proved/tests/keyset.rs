@@ -13,6 +13,8 @@ use std::thread;
 use std::time::{Duration, Instant};
 
 const NOW: u64 = 1_700_000_000;
+/// RFC 8410 section 10.1.
+const PEM: &str = "-----BEGIN PUBLIC KEY-----\nMCowBQYDK2VwAyEAGb9ECWmEzf6FQbrBZ9w7lshQhqowtrbLDFw4rXAxZuE=\n-----END PUBLIC KEY-----\n";
 /// How long a set waits for a server that misbehaves. The closure reads for half as long.
 const SHORTLY: Duration = Duration::from_millis(600);
 /// How long a set waits for a server that does not.
@@ -216,6 +218,14 @@ fn misbehaving() -> Vec<(&'static str, Answer)> {
         ("serves a key without a kid", says(set.replace(r#""kid":"b","#, ""))),
         ("serves a kid in a text", says(set.replace(r#""kid":"b","#, r#""x":"{\"kid\":\"b\",","#))),
         (
+            "serves a kid of no usable key",
+            says(set.replace(r#""kid":"b","#, "").replace('[', r#"[{"kty":"oct","kid":"b","k":""},"#)),
+        ),
+        ("serves one key, in no set", says(key("b"))),
+        ("serves one key, in PEM", says(PEM)),
+        ("serves a key for encryption", says(set.replace(r#""kid":"b","#, r#""kid":"b","use":"enc","#))),
+        ("serves a kid that is a number", says(set.replace(r#""kid":"b","#, r#""kid":7,"#))),
+        (
             "serves keys of an unknown kind",
             says(r#"{"keys":[{"kty":"x","kid":"b"},{"kty":"EC","crv":"P-521","kid":"b","x":"AA","y":"AA"}]}"#),
         ),
@@ -266,6 +276,50 @@ fn keys_rotate() {
     assert_eq!((server.fetches(), set.last_error()), (2, None));
     assert_eq!(*set.current(), set_of(&["b"]));
     assert!(!format!("{set:?}").contains(&part(&secret("b"))[..20]));
+}
+
+/// RFC 7517 section 5: an odd key is skipped, and each new set reports its own.
+#[test]
+fn skipped_keys_are_reported() {
+    const ODD: &str = r#"{"keys":[5,{"kty":"AKP","kid":"b"},"#;
+    let server =
+        Server::new(says(set_of(&["a"]).replace(r#"{"keys":["#, r#"{"keys":[{"kty":"oct","kid":"a","k":""},"#)));
+    let set = KeySet::new(server.fetch(LONG), rotation()).unwrap();
+    let (tell, told) = channel();
+    set.when_skipped(move |skipped| {
+        tell.send(skipped.iter().map(ToString::to_string).collect::<Vec<_>>()).unwrap();
+        panic!("the closure panics")
+    });
+    let blank = "key 0 of the set is skipped: Secret is empty or all zeros";
+    assert_eq!(told.try_recv(), Ok(vec![blank.to_string()]));
+    accepts(&set, "a");
+    server.answers(says(set_of(&["b"]).replace(r#"{"keys":["#, ODD)));
+    accepts(&set, "b");
+    let lines = told.recv_timeout(LONG).unwrap();
+    assert_eq!(lines.len(), 2);
+    for (at, line) in lines.iter().enumerate() {
+        assert!(line.starts_with(&format!("key {at} of the set is skipped: ")) && line.len() > 35, "{line}");
+    }
+    // neither the same set nor one without odd keys is reported
+    thread::sleep(SOON);
+    refuses(&set, "c", "c", ErrorKind::NoKey);
+    thread::sleep(SOON);
+    server.answers(says(set_of(&["c"])));
+    accepts(&set, "c");
+    thread::sleep(SOON);
+    server.answers(says(set_of(&["d"]).replace(r#"{"keys":["#, ODD)));
+    accepts(&set, "d");
+    assert_eq!(told.recv_timeout(LONG), Ok(lines.clone()));
+    thread::sleep(SOON);
+    assert!(told.try_recv().is_err());
+    // a set of odd keys alone has the reasons in its error
+    server.answers(says(ODD.trim_end_matches(',').to_string() + "]}"));
+    thread::sleep(SOON);
+    assert!(matches!(verify(&set, &token(Some("e"), "e")), Some(ErrorKind::Fetch(_))));
+    let error = set.last_error().unwrap();
+    assert!(matches!(error.kind(), ErrorKind::UnusableKey(_)));
+    assert!(lines.iter().all(|it| error.to_string().contains(it)), "{error}");
+    accepts(&set, "d");
 }
 
 #[test]

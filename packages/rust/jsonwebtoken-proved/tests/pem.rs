@@ -107,6 +107,15 @@ fn the_same_keys_in_der() {
     }
 }
 
+/// A certificate is read from PEM alone.
+#[test]
+fn a_certificate_in_der() {
+    let of_pem = DecodingKey::from_rsa_pem(CERTIFICATE.as_bytes()).unwrap();
+    let key = DecodingKey::from_rsa_der(of_pem.try_get_as_bytes().unwrap());
+    let refused = Verifier::new(&key, &Validation::new(Algorithm::RS256)).unwrap_err();
+    assert!(matches!(refused.kind(), ErrorKind::UnusableKey(_)), "{refused}");
+}
+
 /// A key that can't be read is refused when it is used, since making it can't fail.
 #[test]
 fn bytes_that_are_no_key() {
@@ -186,15 +195,23 @@ fn texts_that_are_not_public_keys() {
     let why = DecodingKey::from_ed_pem(PRIVATE.as_bytes()).unwrap_err().into_kind();
     assert_eq!(why, ErrorKind::UnusableKey("it is a private key".to_string()));
     let certificate = "-----BEGIN CERTIFICATE-----\nMAA=\n-----END CERTIFICATE-----";
-    assert_eq!(DecodingKey::from_rsa_pem(certificate.as_bytes()).unwrap_err().kind(), &ErrorKind::InvalidKeyFormat);
+    assert!(matches!(DecodingKey::from_rsa_pem(certificate.as_bytes()).unwrap_err().kind(), ErrorKind::UnusableKey(_)));
     let cut = EC.replace("MFkw", "MFkx");
     for text in ["", "{}", PRIVATE, &EC[..60], &cut, &EC.replace("-----END", "----END")] {
         assert!(DecodingKey::from_ec_pem(text.as_bytes()).is_err(), "{text}");
     }
     // a point that is not on the curve
-    let off = DecodingKey::from_ec_pem(EC.replace("f83O", "f83P").as_bytes()).unwrap();
-    let refused = Verifier::new(&off, &Validation::new(Algorithm::ES256)).unwrap_err();
-    assert!(matches!(refused.kind(), ErrorKind::UnusableKey(_)));
+    let off = DecodingKey::from_ec_pem(EC.replace("f83O", "f83P").as_bytes()).unwrap_err();
+    assert!(matches!(off.kind(), ErrorKind::UnusableKey(_)));
+    // a text in place of DER
+    for (key, algorithm) in [
+        (DecodingKey::from_rsa_der(RSA.as_bytes()), Algorithm::RS256),
+        (DecodingKey::from_ec_der(EC.as_bytes()), Algorithm::ES256),
+        (DecodingKey::from_ed_der(br#"{"keys":[]}"#), Algorithm::EdDSA),
+    ] {
+        let refused = Verifier::new(&key, &Validation::new(algorithm)).unwrap_err();
+        assert!(refused.to_string().contains("_pem"), "{refused}");
+    }
 }
 
 /// Which private key a text holds is read without a feature: RFC 8410 section 10.3 has this one.

@@ -2,9 +2,13 @@
 
 use jsonwebtoken_proved::dangerous::{insecure_decode, insecure_decode_claims};
 use jsonwebtoken_proved::errors::{Error, ErrorKind};
-use jsonwebtoken_proved::jwk::Jwk;
-use jsonwebtoken_proved::{Algorithm, DecodingKey, EncodingKey, Header, Validation, Verifier, decode_header, encode};
+use jsonwebtoken_proved::jwk::{Jwk, ThumbprintHash};
+use jsonwebtoken_proved::{
+    Algorithm, DecodingKey, EncodingKey, Header, KeySet, Rotation, Validation, Verified, Verifier, decode_header,
+    encode,
+};
 use serde_json::{Value, json};
+use std::io::Cursor;
 use std::path::{Path, PathBuf};
 
 /// Returns the rows of a file of the repository. In a copy of the crate, JWT_ROWS names another file of the repository.
@@ -13,6 +17,17 @@ fn rows(path: &str) -> Vec<Value> {
     let named = std::env::var("JWT_ROWS").ok().and_then(|it| Path::new(&it).ancestors().nth(4).map(Path::to_path_buf));
     let text = std::fs::read_to_string(named.unwrap_or_else(|| PathBuf::from(ours)).join(path)).unwrap();
     text.lines().map(|it| serde_json::from_str(it).unwrap()).collect()
+}
+
+/// Returns the key of the numbers of a JSON Web Key.
+fn of_numbers(jwk: &Value) -> Result<DecodingKey, Error> {
+    let text = |name: &str| jwk[name].as_str().unwrap();
+    match text("kty") {
+        "RSA" => DecodingKey::from_rsa_components(text("n"), text("e")),
+        "EC" => DecodingKey::from_ec_components(text("x"), text("y")),
+        "OKP" => DecodingKey::from_ed_components(text("x")),
+        _ => DecodingKey::from_jwk(&serde_json::from_value(jwk.clone()).unwrap()),
+    }
 }
 
 #[test]
@@ -30,7 +45,10 @@ fn all_algorithms() {
                 Some("decode_with_set") => Verifier::from_jwk_set(&row["set"].to_string(), &validation),
                 Some("decode") if row["key"]["jwk"].is_object() => {
                     let jwk: Jwk = serde_json::from_value(row["key"]["jwk"].clone()).unwrap();
-                    Verifier::new(&DecodingKey::from_jwk(&jwk).unwrap(), &validation)
+                    let (key, same) = (DecodingKey::from_jwk(&jwk).unwrap(), of_numbers(&row["key"]["jwk"]).unwrap());
+                    let thumbprint = |key| Jwk::from_decoding_key(key, None)?.thumbprint(ThumbprintHash::SHA256);
+                    assert_eq!(thumbprint(&key).unwrap(), thumbprint(&same).unwrap());
+                    Verifier::new(&same, &validation)
                 }
                 _ => continue,
             };
@@ -139,4 +157,67 @@ fn texts_of_keys_are_no_secrets() {
         refusals += usize::from(refused);
     }
     assert!(refusals > 50 && rows.len() > refusals + 50, "{refusals}");
+}
+
+/// Returns whether the keys of a row are one key that is in no set.
+fn is_alone(row: &Value) -> bool {
+    row["id"].as_str().unwrap().starts_with("alone: ")
+}
+
+/// Returns the claims of a row's token, or the error, by each way to verify with the row's keys: by a verifier of the set and by a set that is
+/// fetched, or by one key. The ways of a set refuse one key.
+fn claims_of(row: &Value) -> Vec<Result<Value, Error>> {
+    let algorithms = serde_json::from_value(row["algorithms"].clone()).unwrap();
+    let validation = Validation { algorithms, ..Validation::default() };
+    let (token, now) = (row["token"].as_str().unwrap(), row["time"].as_u64().unwrap());
+    let text = row["set"].as_str().unwrap().to_string();
+    let by = |verifier: Verifier| verifier.decode_json(token, now);
+    let by_key = || {
+        let key = DecodingKey::from_jwk(&serde_json::from_str::<Jwk>(&text)?)?;
+        Verifier::new(&key, &validation)
+    };
+    let mut made = vec![Verifier::from_jwk_set(&text, &validation).map(by)];
+    let fetched = text.clone();
+    let set = KeySet::new(move || Ok::<_, Error>(Cursor::new(fetched.clone())), Rotation::default());
+    made.push(set.map(|it| it.decode_json(token, &validation, now)));
+    if is_alone(row) {
+        for it in &made {
+            assert!(matches!(it.as_ref().unwrap_err().kind(), ErrorKind::UnusableKey(_)), "{row}");
+        }
+        made = vec![by_key().map(by)];
+    }
+    let claims = |it: Verified<String>| serde_json::from_str(&it.claims).unwrap();
+    made.into_iter().map(|it| Ok(it?.map(claims)?)).collect()
+}
+
+/// Sets with keys that are not usable, and keys that stand alone: the answers are the rows'.
+#[test]
+fn odd_sets() {
+    let mut seen = [0, 0];
+    for row in rows("crates/jwt_vectors/data/odd_sets.jsonl") {
+        for claims in claims_of(&row) {
+            seen[usize::from(claims.is_ok())] += 1;
+            let wanted = match row["want"]["err"].as_str() {
+                // from_jwk has several kinds for a text that the library does not read
+                Some("BadKey") if is_alone(&row) => {
+                    let kinds = ["Json", "Base64", "UnsupportedAlgorithm"].map(|it| json!({ "err": it }));
+                    assert!(kinds.contains(&answer(claims)), "{row}");
+                    continue;
+                }
+                Some("BadKey" | "NoUsableKey") if row["algorithms"] == json!([]) => "MissingAlgorithm",
+                Some("BadKey" | "NoUsableKey") => "UnusableKey",
+                // no listed algorithm is of the key's family
+                Some("InvalidKeyFormat") => "InvalidAlgorithm",
+                Some(wanted) => wanted,
+                None => {
+                    assert_eq!(claims.as_ref(), Ok(&row["want"]["ok"]), "{row}");
+                    continue;
+                }
+            };
+            let is_of_token = !["MissingAlgorithm", "UnusableKey"].contains(&wanted);
+            assert_eq!(claims.as_ref().err().map(Error::is_refusal), Some(is_of_token), "{row}");
+            assert_eq!(answer(claims), json!({ "err": wanted }), "{row}");
+        }
+    }
+    assert!(seen[0] > 100 && seen[1] > 100, "{seen:?}");
 }

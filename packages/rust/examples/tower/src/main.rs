@@ -177,7 +177,8 @@ fn answer(fetch: usize) -> Result<Cursor<String>, &'static str> {
     thread::sleep(Duration::from_millis(50));
     match fetch {
         0 => Ok(Cursor::new(format!(r#"{{"keys":[{A}]}}"#))),
-        1 => Ok(Cursor::new(format!(r#"{{"keys":[{A},{B}]}}"#))),
+        // the key that no library knows is skipped, and is logged
+        1 => Ok(Cursor::new(format!(r#"{{"keys":[{A},{{"kty":"new","kid":"c"}},{B}]}}"#))),
         _ => Err("the key server is down"),
     }
 }
@@ -189,6 +190,7 @@ fn main() -> Result<(), Error> {
     let mut validation = Validation::strict(Algorithm::HS256);
     validation.set_audience(&["shop"]);
     let keys = Arc::new(KeySet::new(fetch, rotation)?);
+    keys.when_skipped(|skipped| skipped.iter().for_each(|it| eprintln!("{it}")));
     let mut service = Protect { inner: Hello, keys, validation: Arc::new(validation) };
     let of = |token: String| format!("Bearer {token}");
     let long = 4102444800;

@@ -5,20 +5,6 @@ pub use super::declared::{Of, Part};
 use crate::status;
 use std::ptr;
 
-/// A call that reads the public key of a text in PEM.
-type FromPem = unsafe extern "C" fn(*const u8, usize, *mut u8, usize, *mut usize) -> u32;
-
-/// A call that verifies one signature.
-type Verify = unsafe extern "C" fn(*const u8, usize, *const u8, usize, *const u8, usize, u32) -> u32;
-
-/// The kind of a key, which is that of the call that takes it.
-#[derive(Clone, Copy, Debug, PartialEq, Eq)]
-pub enum Kind {
-    Secret,
-    Jwk,
-    Set,
-}
-
 /// Overwrites the bytes of a secret that is not used any more.
 pub fn overwrite(secret: &mut [u8]) {
     for byte in secret {
@@ -33,7 +19,7 @@ pub fn checked(status: u32) -> Result<(), u32> {
 }
 
 /// Returns the bytes that a call of the library writes to a buffer of at first this size.
-fn written(size: usize, mut call: impl FnMut(*mut u8, usize, *mut usize) -> u32) -> Result<Vec<u8>, u32> {
+pub fn written(size: usize, mut call: impl FnMut(*mut u8, usize, *mut usize) -> u32) -> Result<Vec<u8>, u32> {
     let mut buffer = Vec::with_capacity(size);
     let mut len = 0;
     loop {
@@ -64,31 +50,6 @@ pub fn text_of(of: Of, number: u32) -> Result<String, u32> {
 pub fn algorithm(name: &str) -> u32 {
     // SAFETY: each pointer has the length of its slice
     unsafe { declared::jwt_algorithm(name.as_ptr(), name.len()) }
-}
-
-pub fn check_secret(secret: &[u8]) -> Result<(), u32> {
-    // SAFETY: each pointer has the length of its slice
-    checked(unsafe { declared::jwt_check_secret(secret.as_ptr(), secret.len()) })
-}
-
-pub fn check_key(jwk: &[u8]) -> Result<(), u32> {
-    // SAFETY: each pointer has the length of its slice
-    checked(unsafe { declared::jwt_check_key(jwk.as_ptr(), jwk.len()) })
-}
-
-/// Returns the JSON Web Key of a public key in PEM, or of the key of a certificate of which nothing is verified.
-pub fn key_from_pem(pem: &str, is_certificate: bool) -> Result<String, u32> {
-    let call: FromPem = if is_certificate { declared::jwt_key_from_certificate } else { declared::jwt_key_from_pem };
-    // SAFETY: the slice has the length that is given, and the buffer does not overlap it
-    text(pem.len() + 128, |buffer, size, len| unsafe { call(pem.as_ptr(), pem.len(), buffer, size, len) })
-}
-
-/// Returns the algorithms that a JSON Web Key serves, as bits of their numbers.
-pub fn key_algorithms(jwk: &[u8]) -> Result<u32, u32> {
-    let mut bits = 0;
-    // SAFETY: the slice has the length that is given
-    checked(unsafe { declared::jwt_key_algorithms(jwk.as_ptr(), jwk.len(), &mut bits) })?;
-    Ok(bits)
 }
 
 /// Returns a part of a token, as JSON of an object. Nothing is verified.
@@ -123,16 +84,20 @@ pub struct Signed<'a> {
     pub signature: &'a [u8],
 }
 
-/// Verifies a signature by a secret or a JSON Web Key.
-pub fn verify_signature(kind: Kind, key: &[u8], signed: Signed<'_>) -> Result<(), u32> {
+/// Verifies a signature by a JSON Web Key.
+pub fn verify_signature(key: &[u8], signed: Signed<'_>) -> Result<(), u32> {
     let Signed { algorithm, message, signature } = signed;
-    let call: Verify = match kind {
-        Kind::Secret => declared::jwt_verify_signature_hmac,
-        Kind::Jwk | Kind::Set => declared::jwt_verify_signature_key,
-    };
     // SAFETY: each slice has the length that is given
     checked(unsafe {
-        call(message.as_ptr(), message.len(), signature.as_ptr(), signature.len(), key.as_ptr(), key.len(), algorithm)
+        declared::jwt_verify_signature_key(
+            message.as_ptr(),
+            message.len(),
+            signature.as_ptr(),
+            signature.len(),
+            key.as_ptr(),
+            key.len(),
+            algorithm,
+        )
     })
 }
 
@@ -226,9 +191,4 @@ pub fn ecdsa_signature(der: &[u8], algorithm: u32) -> Result<Vec<u8>, u32> {
     written(96, |buffer, size, len| unsafe {
         declared::jwt_ecdsa_signature(der.as_ptr(), der.len(), algorithm, buffer, size, len)
     })
-}
-
-pub fn thumbprint(jwk: &str, bits: u32) -> Result<String, u32> {
-    // SAFETY: the slice has the length that is given, and the buffer does not overlap it
-    text(96, |buffer, size, len| unsafe { declared::jwt_thumbprint(jwk.as_ptr(), jwk.len(), bits, buffer, size, len) })
 }

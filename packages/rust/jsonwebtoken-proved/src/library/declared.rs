@@ -2,46 +2,55 @@
 
 use std::ffi::c_void;
 
-/// `struct jwt_verifier`.
+/// `struct jwt_handle`.
 #[repr(C)]
-pub struct Verifier {
+pub struct Handle {
     pub at: *mut c_void,
 }
 
+/// `struct jwt_key_info`.
+#[repr(C)]
+#[derive(Default)]
+pub struct KeyInfo {
+    pub status: u32,
+    pub verifies: u32,
+    pub signs: u32,
+}
+
+/// The place of all items of a handle together, `JWT_ALL`.
+pub const ALL: usize = usize::MAX;
+
 extern "C" {
-    pub fn jwt_verifier_secret(
-        secret: *const u8,
-        secret_len: usize,
+    pub fn jwt_share(handle: *mut Handle, other: *mut Handle) -> u32;
+    pub fn jwt_free(handle: *mut Handle);
+    pub fn jwt_keys_add(
+        keys: *mut Handle,
+        source: u32,
+        bytes: *const u8,
+        bytes_len: usize,
+        items: *mut usize,
+        kept: *mut usize,
+    ) -> u32;
+    pub fn jwt_keys_info(keys: *mut Handle, at: usize, info: *mut KeyInfo) -> u32;
+    pub fn jwt_keys_text(keys: *mut Handle, at: usize, buffer: *mut u8, buffer_len: usize, len: *mut usize) -> u32;
+    pub fn jwt_thumbprint(
+        keys: *mut Handle,
+        at: usize,
+        bits: u32,
+        buffer: *mut u8,
+        buffer_len: usize,
+        len: *mut usize,
+    ) -> u32;
+    pub fn jwt_verifier_new(
+        keys: *mut Handle,
         options: *const u8,
         options_len: usize,
         max_token_len: usize,
-        allows_blank: bool,
         max_prepared: usize,
-        verifier: *mut Verifier,
+        verifier: *mut Handle,
     ) -> u32;
-    pub fn jwt_verifier_key(
-        key: *const u8,
-        key_len: usize,
-        options: *const u8,
-        options_len: usize,
-        max_token_len: usize,
-        allows_blank: bool,
-        max_prepared: usize,
-        verifier: *mut Verifier,
-    ) -> u32;
-    pub fn jwt_verifier_set(
-        set: *const u8,
-        set_len: usize,
-        options: *const u8,
-        options_len: usize,
-        max_token_len: usize,
-        allows_blank: bool,
-        max_prepared: usize,
-        verifier: *mut Verifier,
-    ) -> u32;
-    pub fn jwt_verifier_share(verifier: *mut Verifier, other: *mut Verifier) -> u32;
     pub fn jwt_verifier_decode(
-        verifier: *mut Verifier,
+        verifier: *mut Handle,
         token: *const u8,
         token_len: usize,
         now: u64,
@@ -51,7 +60,6 @@ extern "C" {
         last: *mut u64,
         test: *mut u32,
     ) -> u32;
-    pub fn jwt_verifier_free(verifier: *mut Verifier);
     pub fn jwt_signed_part(
         token: *const u8,
         token_len: usize,
@@ -77,15 +85,6 @@ extern "C" {
         buffer_len: usize,
         len: *mut usize,
     ) -> u32;
-    pub fn jwt_verify_signature_hmac(
-        message: *const u8,
-        message_len: usize,
-        signature: *const u8,
-        signature_len: usize,
-        secret: *const u8,
-        secret_len: usize,
-        algorithm: u32,
-    ) -> u32;
     pub fn jwt_verify_signature_key(
         message: *const u8,
         message_len: usize,
@@ -95,7 +94,6 @@ extern "C" {
         key_len: usize,
         algorithm: u32,
     ) -> u32;
-    pub fn jwt_key_algorithms(key: *const u8, key_len: usize, bits: *mut u32) -> u32;
     pub fn jwt_unverified(
         token: *const u8,
         token_len: usize,
@@ -154,27 +152,17 @@ extern "C" {
         buffer_len: usize,
         len: *mut usize,
     ) -> u32;
-    pub fn jwt_thumbprint(
-        key: *const u8,
-        key_len: usize,
-        bits: u32,
-        buffer: *mut u8,
-        buffer_len: usize,
-        len: *mut usize,
-    ) -> u32;
-    pub fn jwt_key_from_pem(pem: *const u8, pem_len: usize, buffer: *mut u8, buffer_len: usize, len: *mut usize)
-    -> u32;
-    pub fn jwt_key_from_certificate(
-        pem: *const u8,
-        pem_len: usize,
-        buffer: *mut u8,
-        buffer_len: usize,
-        len: *mut usize,
-    ) -> u32;
-    pub fn jwt_check_secret(secret: *const u8, secret_len: usize) -> u32;
-    pub fn jwt_check_key(key: *const u8, key_len: usize) -> u32;
     pub fn jwt_algorithm(name: *const u8, name_len: usize) -> u32;
     pub fn jwt_text(of: u32, number: u32, buffer: *mut u8, buffer_len: usize, len: *mut usize) -> u32;
+}
+
+/// What the bytes of keys are, `enum jwt_source`.
+#[derive(Clone, Copy, Debug)]
+pub enum Source {
+    Text = 1,
+    Secret = 2,
+    Certificate = 3,
+    Set = 4,
 }
 
 /// What a number stands for, `enum jwt_of`.
@@ -194,7 +182,7 @@ pub enum Part {
 
 #[cfg(test)]
 mod tests {
-    use super::{Of, Part};
+    use super::{Of, Part, Source};
     use std::collections::BTreeMap;
 
     /// Returns the types of the parameters of each call after such a head, and what follows them.
@@ -221,7 +209,8 @@ mod tests {
             "size_t *" => "*mut usize",
             "uint32_t *" => "*mut u32",
             "uint64_t *" => "*mut u64",
-            "struct jwt_verifier *" => "*mut Verifier",
+            "struct jwt_handle *" => "*mut Handle",
+            "struct jwt_key_info *" => "*mut KeyInfo",
             "size_t" => "usize",
             "uint32_t" => "u32",
             "uint64_t" => "u64",
@@ -252,8 +241,26 @@ mod tests {
         let header = crate::tests::file_of_repository("packages/c/include/jwtproved.h");
         let of = [Of::Status, Of::Test, Of::Algorithm].map(|it| format!("JWT_OF_{it:?} = {}", it as u32));
         let parts = [Part::Header, Part::Payload].map(|it| format!("JWT_{it:?} = {}", it as u32));
-        for it in of.iter().chain(&parts) {
+        let sources = [Source::Text, Source::Secret, Source::Certificate, Source::Set]
+            .map(|it| format!("JWT_{it:?} = {}", it as u32));
+        for it in of.iter().chain(&parts).chain(&sources) {
             assert!(header.contains(&it.to_uppercase()), "{it}");
         }
+        assert!(header.contains("#define JWT_ALL SIZE_MAX"));
+    }
+
+    /// Members in another order would take one number for another.
+    #[test]
+    fn the_members_are_those_of_the_header_file() {
+        fn members<'a>(text: &'a str, head: &str, of_line: fn(&'a str) -> Option<&'a str>) -> Vec<&'a str> {
+            text.split_once(head).unwrap().1.split_once("\n}").unwrap().0.lines().filter_map(of_line).collect()
+        }
+        let header = crate::tests::file_of_repository("packages/c/include/jwtproved.h");
+        let its =
+            members(&header, "struct jwt_key_info {", |it| it.trim().strip_prefix("uint32_t ")?.strip_suffix(';'));
+        let ours = members(include_str!("declared.rs"), "pub struct KeyInfo {", |it| {
+            it.trim().strip_prefix("pub ")?.strip_suffix(": u32,")
+        });
+        assert_eq!((ours.len(), &ours), (3, &its));
     }
 }
