@@ -22,6 +22,8 @@ NOW = int(time.time())
 PASS = {"exp": NOW + 3600}
 # of each worker
 CONNECTIONS = 512
+# odd items of a set
+MANY = 100_000
 
 CONF = """
 load_module {module};
@@ -130,7 +132,8 @@ class Server:
         return [NGINX, "-p", self.work, "-c", f"{self.work}/nginx.conf", "-e", f"{self.work}/error.log", *words]
 
     def start(self):
-        self.process = subprocess.Popen([*self.before, *self.words()], env=self.env)
+        # what nginx says is in error.log too
+        self.process = subprocess.Popen([*self.before, *self.words()], env=self.env, stderr=subprocess.DEVNULL)
         for _ in range(3600):
             with contextlib.suppress(OSError), socket.create_connection(("127.0.0.1", self.port), 1):
                 return
@@ -182,6 +185,18 @@ def eventually(holds):
             return True
         time.sleep(0.05)
     return False
+
+
+def many_items(good):
+    """Returns the text of a set of less than 1 MiB: MANY odd items, and a key at its end."""
+    text = '{"keys":[' + '{"kid":7},' * MANY + json.dumps(good, separators=(",", ":")) + "]}"
+    assert len(text) < 2**20
+    return text
+
+
+def warnings(server, directive):
+    """Returns what the log says, at the level warn, of the keys of a directive, auth_jwt_key_file or auth_jwt_key_request."""
+    return re.findall(rf"\[warn\] [^\n]*: auth_jwt_key_{directive}([^\n]*)", server.read("error.log"))
 
 
 def logs(server):

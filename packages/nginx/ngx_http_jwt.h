@@ -14,12 +14,12 @@
 #define NGX_HTTP_JWT_PAUSE  10
 /* room for each text of the library */
 #define NGX_HTTP_JWT_TEXT  64
+/* how much longer a result may be than the token or text at the first try */
+#define NGX_HTTP_JWT_ROOM  64
 /* room for the names of all algorithms, and a few words */
 #define NGX_HTTP_JWT_NAMES  256
-/* what is said of a set that JWT_NO_USABLE_KEY refuses */
-#define NGX_HTTP_JWT_UNUSABLE                                                \
-    ": each key is for other algorithms, malformed, too weak or without a "  \
-    "kid; jwt keys FILE shows which"
+/* room for why keys are refused, which is cut if it is longer */
+#define NGX_HTTP_JWT_FAULT  1024
 /* this module's own test, after those of the library: iss is no list */
 #define NGX_HTTP_JWT_ISSUER_TEST  (JWT_TEST_CLAIMS_ARE_VALID + 1)
 /* the longest token with its claims that is remembered */
@@ -33,13 +33,25 @@ typedef struct ngx_http_jwt_fetch_s  ngx_http_jwt_fetch_t;
 typedef struct ngx_http_jwt_rules_s  ngx_http_jwt_rules_t;
 
 
+/* keys that the library has read */
+typedef struct {
+    struct jwt_handle      handle;
+    size_t                 items;
+    size_t                 kept;        /* of them: the others are skipped */
+    ngx_uint_t             is_set;      /* and not one key alone */
+} ngx_http_jwt_keys_t;
+
+
 /* a key file, or the location of a set */
 typedef struct {
     ngx_str_t              name;
-    ngx_str_t              text;        /* of a file: a set, or one key */
-    ngx_str_t              issuer;      /* a list in JSON, or empty */
-    unsigned               is_set:1;
-    unsigned               is_fetched:1;
+    ngx_str_t              issuer;      /* or empty */
+    ngx_str_t              issuers;     /* a list of it in JSON */
+    ngx_uint_t             is_fetched;
+
+    /* of a file, and only while the configuration is read */
+    ngx_str_t              text;
+    ngx_http_jwt_keys_t   *keys;
 } ngx_http_jwt_key_t;
 
 
@@ -63,6 +75,7 @@ struct ngx_http_jwt_loc_conf_s {
     ngx_array_t           *keys;        /* of ngx_http_jwt_key_t */
     void                  *server;      /* of the locations of sets */
     time_t                 period;      /* between fetches */
+    uint32_t               bits;        /* of the algorithms */
     ngx_str_t              algorithms;  /* lists in JSON */
     ngx_str_t              audiences;
     ngx_str_t              issuers;
@@ -100,13 +113,22 @@ typedef struct {
 } ngx_http_jwt_slot_t;
 
 
-/* keys that are verified with, as a worker has them */
-typedef struct {
+typedef struct ngx_http_jwt_source_s  ngx_http_jwt_source_t;
+
+/*
+ * keys that are verified with, as a worker has them: all sources of an issuer,
+ * or all without an issuer, are one set with one verifier
+ */
+struct ngx_http_jwt_source_s {
     ngx_http_jwt_rules_t     *rules;
     ngx_http_jwt_key_t       *key;
+    ngx_http_jwt_source_t    *first;    /* of the same set, in their order */
+    ngx_str_t                 text;     /* empty until a set is fetched */
+
+    /* only of the first of a set */
+    ngx_uint_t                count;    /* of sources of the set */
     ngx_str_t                 options;
-    struct jwt_verifier       verifier; /* none until a set is fetched */
-    ngx_uint_t                lacks_key;  /* of the token verified last */
+    struct jwt_handle         verifier; /* none without a text */
 
     /* only of keys that are fetched */
     ngx_http_jwt_fetch_t     *fetch;    /* under way, or NULL */
@@ -114,9 +136,8 @@ typedef struct {
     time_t                    cut;      /* when the last one was cut off */
     time_t                    fetched;  /* when one gave a set */
     ngx_uint_t                has_set;
-    ngx_str_t                 text;     /* of the set */
     ngx_uint_t                is_failing;  /* the last gave none */
-} ngx_http_jwt_source_t;
+};
 
 
 /*
@@ -145,6 +166,7 @@ typedef struct {
     ngx_str_t              claims;      /* of an accepted token, in JSON */
     uint32_t               status;
     uint32_t               test;        /* that failed, or 0 */
+    ngx_http_jwt_source_t *source;      /* the first of the set, or NULL */
     ngx_str_t              unmet;       /* what is required, or empty */
     ngx_queue_t            queue;       /* of those that wait for a set */
     ngx_uint_t             waited;      /* for so many sets */
@@ -176,16 +198,26 @@ ngx_int_t ngx_http_jwt_await(ngx_http_jwt_rules_t *rules,
     ngx_http_jwt_ctx_t *ctx);
 void ngx_http_jwt_stop_waiting(ngx_http_jwt_ctx_t *ctx);
 
+/* ngx_http_jwt_keys.c */
+u_char *ngx_http_jwt_write_fault(ngx_http_jwt_keys_t *keys, uint32_t status,
+    u_char *p, u_char *last);
+void ngx_http_jwt_log_skipped(ngx_log_t *log, ngx_http_jwt_key_t *key,
+    ngx_str_t *server, ngx_http_jwt_keys_t *keys);
+
 /* ngx_http_jwt_rules.c */
 char *ngx_http_jwt_read_key(ngx_conf_t *cf, ngx_http_jwt_key_t *key);
 char *ngx_http_jwt_set_rules(ngx_conf_t *cf, ngx_http_jwt_loc_conf_t *conf);
+ngx_http_jwt_source_t *ngx_http_jwt_find_source(ngx_http_jwt_rules_t *rules,
+    ngx_str_t *issuer);
 uint32_t ngx_http_jwt_take_set(ngx_http_jwt_source_t *source,
-    ngx_array_t *set);
+    ngx_array_t *set, ngx_http_jwt_keys_t *keys);
 
 /* ngx_http_jwt_text.c */
 uint32_t ngx_http_jwt_write(ngx_http_jwt_call_pt call, ngx_pool_t *pool,
     ngx_str_t *in, ngx_str_t *out);
 enum jwt_status ngx_http_jwt_header(const char *token, size_t token_len,
+    char *buffer, size_t buffer_len, size_t *len);
+enum jwt_status ngx_http_jwt_payload(const char *token, size_t token_len,
     char *buffer, size_t buffer_len, size_t *len);
 u_char *ngx_http_jwt_write_algorithms(u_char *p, u_char *last, uint32_t bits);
 ngx_uint_t ngx_http_jwt_is_same_text(ngx_str_t *a, ngx_str_t *b);

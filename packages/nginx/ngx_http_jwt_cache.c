@@ -6,8 +6,6 @@
 #include "ngx_http_jwt.h"
 
 
-/* how much longer than their token claims may be at the first try */
-#define NGX_HTTP_JWT_ROOM  64
 /*
  * in how many neighbouring slots a token may be: of 500 tokens in turn 98 of
  * 100 are found so, and 60 with a single slot
@@ -80,7 +78,7 @@ ngx_http_jwt_keep(ngx_http_jwt_rules_t *rules, ngx_http_jwt_slot_t *slot,
 
 
 static uint32_t
-ngx_http_jwt_decode_by(struct jwt_verifier *verifier, ngx_http_jwt_ctx_t *ctx,
+ngx_http_jwt_decode_by(struct jwt_handle *verifier, ngx_http_jwt_ctx_t *ctx,
     uint64_t now, uint64_t *last)
 {
     size_t     size;
@@ -128,40 +126,86 @@ ngx_http_jwt_check_issuer(ngx_http_jwt_ctx_t *ctx)
 
 
 /*
- * Sources without an issuer are one set: the first that has a key of the kid
- * decides.  Each of the others decides by itself about its issuer's tokens,
- * and of their refusals that counts which came after most tests.
+ * Reads the issuer that a token names, of which nothing is verified.  The
+ * status is another than JWT_OK if there is no such text.
  */
+static uint32_t
+ngx_http_jwt_read_issuer(ngx_http_jwt_ctx_t *ctx, ngx_str_t *issuer)
+{
+    uint32_t    status, type;
+    ngx_str_t   payload;
+
+    /* a verifier refuses it unread */
+    if (ctx->token.len > JWT_TOKEN_LIMIT) {
+        return JWT_TOKEN_TOO_LONG;
+    }
+
+    status = ngx_http_jwt_write(ngx_http_jwt_payload, ctx->request->pool,
+                                &ctx->token, &payload);
+    if (status != JWT_OK) {
+        return status;
+    }
+
+    issuer->data = ngx_pnalloc(ctx->request->pool, payload.len);
+    if (issuer->data == NULL) {
+        return JWT_OUT_OF_MEMORY;
+    }
+
+    status = jwt_member((char *) payload.data, payload.len, "iss", 3, &type,
+                        (char *) issuer->data, payload.len, &issuer->len);
+
+    return status == JWT_OK && type != JWT_STRING ? JWT_NO_MEMBER : status;
+}
+
+
+/*
+ * Selects the set whose verifier decides: that of the issuer that the token
+ * names.  A token that names none is refused by the first, or by the test that
+ * its issuer is one text.
+ */
+static uint32_t
+ngx_http_jwt_select(ngx_http_jwt_rules_t *rules, ngx_http_jwt_ctx_t *ctx)
+{
+    uint32_t    status;
+    ngx_str_t   issuer;
+
+    ctx->source = rules->sources;
+
+    if (!rules->is_bound) {
+        return JWT_OK;
+    }
+
+    status = ngx_http_jwt_read_issuer(ctx, &issuer);
+    if (status != JWT_OK) {
+        return status == JWT_OUT_OF_MEMORY ? status : JWT_OK;
+    }
+
+    ctx->source = ngx_http_jwt_find_source(rules, &issuer);
+    if (ctx->source != NULL) {
+        return JWT_OK;
+    }
+
+    ctx->test = JWT_TEST_CLAIMS_ARE_VALID;
+    return JWT_INVALID_ISSUER;
+}
+
+
+/* One verifier decides about a token. */
 static uint32_t
 ngx_http_jwt_decode(ngx_http_jwt_rules_t *rules, ngx_http_jwt_ctx_t *ctx,
     uint64_t now, uint64_t *last)
 {
-    uint32_t                status, refusal = JWT_NO_VERIFIER, test = 0;
-    ngx_uint_t              i;
-    ngx_http_jwt_source_t  *it;
+    uint32_t  status;
 
-    for (i = 0; i < rules->count; i++) {
-        it = &rules->sources[i];
-        status = ngx_http_jwt_decode_by(&it->verifier, ctx, now, last);
-        it->lacks_key = status == JWT_NO_VERIFIER
-                        || ctx->test == JWT_TEST_KEY_IS_FOUND;
+    status = ngx_http_jwt_select(rules, ctx);
 
-        if (status == JWT_OK && rules->is_bound) {
-            status = ngx_http_jwt_check_issuer(ctx);
-        }
-
-        if (!it->lacks_key && (!rules->is_bound || ctx->test == 0)) {
-            return status;
-        }
-
-        if (ctx->test > test) {
-            test = ctx->test;
-            refusal = status;
-        }
+    if (status == JWT_OK) {
+        status = ngx_http_jwt_decode_by(&ctx->source->verifier, ctx, now,
+                                        last);
     }
 
-    ctx->test = test;
-    return refusal;
+    return status == JWT_OK && rules->is_bound
+           ? ngx_http_jwt_check_issuer(ctx) : status;
 }
 
 

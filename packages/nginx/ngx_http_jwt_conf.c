@@ -248,6 +248,7 @@ ngx_http_jwt_merge_loc_conf(ngx_conf_t *cf, void *parent, void *child)
     ngx_conf_merge_value(conf->enabled, prev->enabled, 0);
     ngx_conf_merge_str_value(conf->realm, prev->realm, "");
     ngx_conf_merge_sec_value(conf->period, prev->period, 3600);
+    ngx_conf_merge_bitmask_value(conf->bits, prev->bits, 0);
     ngx_conf_merge_str_value(conf->algorithms, prev->algorithms, "");
     ngx_conf_merge_str_value(conf->audiences, prev->audiences, "null");
     ngx_conf_merge_str_value(conf->issuers, prev->issuers, "null");
@@ -447,16 +448,29 @@ ngx_http_jwt_names(ngx_conf_t *cf, ngx_command_t *cmd, ngx_str_t *name,
 static char *
 ngx_http_jwt_list(ngx_conf_t *cf, ngx_command_t *cmd, void *conf)
 {
-    ngx_str_t  *value = cf->args->elts;
-    ngx_str_t  *list = (ngx_str_t *) ((char *) conf + cmd->offset);
+    char                     *rv;
+    ngx_str_t                *value = cf->args->elts;
+    ngx_str_t                *list = (ngx_str_t *) ((char *) conf
+                                                    + cmd->offset);
+    ngx_uint_t                i;
+    ngx_http_jwt_loc_conf_t  *jlcf = conf;
 
     if (list->data != NULL) {
         return "is duplicate";
     }
 
-    ngx_http_jwt_keep_place(cf, conf);
+    ngx_http_jwt_keep_place(cf, jlcf);
 
-    return ngx_http_jwt_names(cf, cmd, &value[1], cf->args->nelts - 1, list);
+    rv = ngx_http_jwt_names(cf, cmd, &value[1], cf->args->nelts - 1, list);
+
+    if (rv == NGX_CONF_OK && list == &jlcf->algorithms) {
+        for (i = 1; i < cf->args->nelts; i++) {
+            jlcf->bits |= (uint32_t) 1 << jwt_algorithm((char *) value[i].data,
+                                                        value[i].len);
+        }
+    }
+
+    return rv;
 }
 
 
@@ -491,7 +505,7 @@ static char *
 ngx_http_jwt_key(ngx_conf_t *cf, ngx_command_t *cmd, void *conf)
 {
     char                     *rv;
-    ngx_str_t                *value = cf->args->elts, issuer;
+    ngx_str_t                *value = cf->args->elts;
     ngx_http_jwt_key_t       *key;
     ngx_http_jwt_loc_conf_t  *jlcf = conf;
 
@@ -510,14 +524,14 @@ ngx_http_jwt_key(ngx_conf_t *cf, ngx_command_t *cmd, void *conf)
     key->is_fetched = ngx_strcmp(cmd->name.data, "auth_jwt_key_request") == 0;
 
     if (cf->args->nelts > 2) {
-        issuer.data = value[2].data + 4;
-        issuer.len = value[2].len - 4;
+        key->issuer.data = value[2].data + 4;
+        key->issuer.len = value[2].len - 4;
 
         if (ngx_strncmp(value[2].data, "iss=", 4) != 0) {
             return "takes iss=NAME as its second argument";
         }
 
-        rv = ngx_http_jwt_names(cf, cmd, &issuer, 1, &key->issuer);
+        rv = ngx_http_jwt_names(cf, cmd, &key->issuer, 1, &key->issuers);
         if (rv != NGX_CONF_OK) {
             return rv;
         }

@@ -47,20 +47,25 @@ ngx_http_jwt_stop_waiting(ngx_http_jwt_ctx_t *ctx)
 }
 
 
-/* Lets those that wait go on, and another fetch begin. */
+/* Lets those that wait for its set go on, and another fetch begin. */
 static void
 ngx_http_jwt_end_fetch(ngx_http_jwt_source_t *source, ngx_uint_t is_done)
 {
-    ngx_connection_t      *c;
-    ngx_http_jwt_ctx_t    *ctx;
-    ngx_http_jwt_rules_t  *rules = source->rules;
+    ngx_queue_t         *q, *next, *waiting = &source->rules->waiting;
+    ngx_connection_t    *c;
+    ngx_http_jwt_ctx_t  *ctx;
 
     source->fetch = NULL;
     *(is_done ? &source->tried : &source->cut) = ngx_time();
 
-    while (!ngx_queue_empty(&rules->waiting)) {
-        ctx = ngx_queue_data(ngx_queue_head(&rules->waiting),
-                             ngx_http_jwt_ctx_t, queue);
+    for (q = ngx_queue_head(waiting); q != waiting; q = next) {
+        next = ngx_queue_next(q);
+        ctx = ngx_queue_data(q, ngx_http_jwt_ctx_t, queue);
+
+        if (ctx->source != source->first) {
+            continue;
+        }
+
         ngx_http_jwt_stop_waiting(ctx);
         ctx->waited += is_done;
         c = ctx->request->connection;
@@ -89,49 +94,60 @@ ngx_http_jwt_cut_fetch(void *data)
 /* Says why a fetch gave no set. */
 static void
 ngx_http_jwt_report_fetch(ngx_http_jwt_fetch_t *fetch, ngx_uint_t answer,
-    uint32_t status)
+    uint32_t status, ngx_http_jwt_keys_t *keys)
 {
-    u_char                     text[NGX_HTTP_JWT_TEXT];
-    ngx_str_t                  said = { 0, text };
+    u_char                     text[NGX_HTTP_JWT_FAULT], *p = text;
+    const char                *fault = "";
     ngx_http_jwt_source_t     *source = fetch->source;
     ngx_http_core_srv_conf_t  *cscf = source->rules->conf->server;
 
     if (answer != NGX_HTTP_OK) {
-        ngx_str_set(&said, "another status than 200");
+        fault = "another status than 200";
 
     } else if (fetch->is_bad) {
-        ngx_str_set(&said, "more than 1 MiB, or not read");
+        fault = "more than 1 MiB, or not read";
 
     } else if (!fetch->is_whole) {
-        ngx_str_set(&said, "cut");
+        fault = "cut";
+
+    } else if (status == JWT_BAD_KEY) {
+        fault = "no JSON Web Key Set";
 
     } else {
-        (void) jwt_text(JWT_OF_STATUS, status, (char *) text, sizeof(text),
-                        &said.len);
+        p = ngx_http_jwt_write_fault(keys, status, text, text + sizeof(text));
     }
 
     /* the log of a connection has the request's line, and so a token */
     ngx_log_error(NGX_LOG_ERR, ngx_cycle->log, 0,
                   "auth_jwt: no keys from \"%V\" of server \"%V\": status "
-                  "%ui, %ui bytes: %V%s", &source->key->name,
-                  &cscf->server_name, answer, fetch->set.nelts, &said,
-                  status == JWT_NO_USABLE_KEY ? NGX_HTTP_JWT_UNUSABLE : "");
+                  "%ui, %ui bytes: %s%*s", &source->key->name,
+                  &cscf->server_name, answer, fetch->set.nelts, fault,
+                  (size_t) (p - text), text);
 }
 
 
 static void
 ngx_http_jwt_take(ngx_http_jwt_fetch_t *fetch, ngx_uint_t answer)
 {
-    uint32_t  status = JWT_BAD_SET;
+    uint32_t                   status = JWT_BAD_KEY;
+    ngx_http_jwt_keys_t        keys = { JWT_NONE, 0, 0, 1 };
+    ngx_http_jwt_source_t     *source = fetch->source;
+    ngx_http_core_srv_conf_t  *cscf = source->rules->conf->server;
 
     if (answer == NGX_HTTP_OK && fetch->is_whole && !fetch->is_bad) {
-        status = ngx_http_jwt_take_set(fetch->source, &fetch->set);
+        status = ngx_http_jwt_take_set(source, &fetch->set, &keys);
     }
 
-    if (status != JWT_OK) {
-        fetch->source->is_failing = 1;
-        ngx_http_jwt_report_fetch(fetch, answer, status);
+    if (status == JWT_OK) {
+        ngx_http_jwt_log_skipped(ngx_cycle->log, source->key,
+                                 &cscf->server_name, &keys);
+
+    } else {
+        source->is_failing = 1;
+        ngx_http_jwt_report_fetch(fetch, answer, status, &keys);
     }
+
+    jwt_free(&keys.handle);
 }
 
 
@@ -307,25 +323,19 @@ ngx_http_jwt_begin_fetch(ngx_http_request_t *r, ngx_http_jwt_source_t *source)
 }
 
 
-/*
- * Returns whether a fetch could give the key of a token: no source has it, or
- * the key of that kid is another issuer's, by which the signature is not.
- */
+/* Returns whether a fetch could give the key of a token. */
 static ngx_uint_t
-ngx_http_jwt_lacks_key(ngx_http_jwt_rules_t *rules, ngx_http_jwt_ctx_t *ctx)
+ngx_http_jwt_lacks_key(ngx_http_jwt_ctx_t *ctx)
 {
     size_t      len;
-    uint32_t    type = JWT_STRING, last;
+    uint32_t    type = JWT_STRING;
     ngx_str_t   header;
 
     if (ctx->test == 0) {
         return ctx->status == JWT_NO_VERIFIER;
     }
 
-    last = rules->is_bound ? JWT_TEST_SIGNATURE_IS_ACCEPTED
-                           : JWT_TEST_KEY_IS_FOUND;
-
-    if (ctx->test < JWT_TEST_KEY_IS_FOUND || ctx->test > last) {
+    if (ctx->test != JWT_TEST_KEY_IS_FOUND) {
         return 0;
     }
 
@@ -400,10 +410,10 @@ ngx_int_t
 ngx_http_jwt_await(ngx_http_jwt_rules_t *rules, ngx_http_jwt_ctx_t *ctx)
 {
     ngx_int_t               rc = NGX_OK;
-    ngx_uint_t              i, lacks_key, is_awaited = 0;
+    ngx_uint_t              i, lacks_key, is_lacking, is_awaited = 0;
     ngx_http_jwt_source_t  *it;
 
-    lacks_key = ngx_http_jwt_lacks_key(rules, ctx);
+    lacks_key = ngx_http_jwt_lacks_key(ctx);
 
     for (i = 0; i < rules->count; i++) {
         it = &rules->sources[i];
@@ -412,9 +422,10 @@ ngx_http_jwt_await(ngx_http_jwt_rules_t *rules, ngx_http_jwt_ctx_t *ctx)
             continue;
         }
 
-        ngx_http_jwt_renew(it, ctx->request, lacks_key && it->lacks_key);
+        is_lacking = lacks_key && it->first == ctx->source;
+        ngx_http_jwt_renew(it, ctx->request, is_lacking);
 
-        if (lacks_key && it->lacks_key) {
+        if (is_lacking) {
             is_awaited |= it->fetch != NULL;
 
             if (!it->has_set || it->is_failing) {
@@ -424,7 +435,9 @@ ngx_http_jwt_await(ngx_http_jwt_rules_t *rules, ngx_http_jwt_ctx_t *ctx)
     }
 
     /* each fetch is waited for once */
-    if (is_awaited && !ctx->cannot_wait && ctx->waited < rules->count) {
+    if (is_awaited && !ctx->cannot_wait
+        && ctx->waited < ctx->source->count)
+    {
         return ngx_http_jwt_wait(rules, ctx);
     }
 

@@ -6,79 +6,25 @@
     "\"iss\":%V}"
 
 
-/* if a fetched set is longer, none of its keys is prepared */
+/* if a set with a fetched one is longer, none of its keys is prepared */
 #define NGX_HTTP_JWT_LONG  65536
 /*
- * bytes of prepared keys of a fetched set: 64 keys on P-256 take 0.1 s, in
- * which the worker serves no other request
+ * bytes of prepared keys of such a set: 64 keys on P-256 take 0.1 s, in which
+ * the worker serves no other request
  */
 #define NGX_HTTP_JWT_PREPARED  1048576
-
-
-/* Writes what a single key is for, and returns the end. */
-static u_char *
-ngx_http_jwt_write_use(ngx_str_t *key, u_char *p, u_char *last)
-{
-    uint32_t  bits;
-
-    (void) jwt_key_algorithms((char *) key->data, key->len, &bits);
-
-    if (bits == 0) {
-        return ngx_slprintf(p, last, ": the key is malformed, or too weak, "
-                            "such as RSA of less than 2048 bits");
-    }
-
-    p = ngx_slprintf(p, last, ": the key is for ");
-    p = ngx_http_jwt_write_algorithms(p, last, bits);
-
-    return ngx_slprintf(p, last, ", and not for auth_jwt_alg");
-}
-
-
-/* Returns what a text is that has no key which verifies. */
-static const char *
-ngx_http_jwt_other(ngx_str_t *text)
-{
-    if (ngx_strnstr(text->data, "PRIVATE KEY-----", text->len) != NULL) {
-        return ": a private key, and a public one is wanted";
-    }
-
-    if (ngx_strnstr(text->data, "BEGIN CERTIFICATE-----", text->len) != NULL) {
-        return ": a certificate, whose key openssl x509 -pubkey -noout prints";
-    }
-
-    return "";
-}
 
 
 /* Says why the library refuses a key file. */
 static char *
 ngx_http_jwt_report(ngx_conf_t *cf, ngx_http_jwt_key_t *key, uint32_t status)
 {
-    u_char       text[NGX_HTTP_JWT_TEXT], use[NGX_HTTP_JWT_NAMES];
-    u_char      *p = use;
-    ngx_str_t    said = { 0, text };
-    const char  *hint = "";
+    u_char  text[NGX_HTTP_JWT_FAULT], *p;
 
-    (void) jwt_text(JWT_OF_STATUS, status, (char *) text, sizeof(text),
-                    &said.len);
-
-    if (status == JWT_NO_USABLE_KEY && key->is_set) {
-        hint = NGX_HTTP_JWT_UNUSABLE;
-
-    } else if (status == JWT_NO_USABLE_KEY) {
-        p = ngx_http_jwt_write_use(&key->text, use, use + sizeof(use));
-
-    } else if (status < JWT_BUFFER_TOO_SMALL && status != JWT_OUT_OF_MEMORY) {
-        /* why one of the three is not read says little of the others */
-        ngx_str_set(&said, "no JSON Web Key Set, JSON Web Key or public key "
-                           "in PEM");
-        hint = ngx_http_jwt_other(&key->text);
-    }
-
-    ngx_conf_log_error(NGX_LOG_EMERG, cf, 0,
-                       "auth_jwt_key_file \"%V\": %V%s%*s", &key->name, &said,
-                       hint, (size_t) (p - use), use);
+    p = ngx_http_jwt_write_fault(key->keys, status, text,
+                                 text + sizeof(text));
+    ngx_conf_log_error(NGX_LOG_EMERG, cf, 0, "auth_jwt_key_file \"%V\": %*s",
+                       &key->name, (size_t) (p - text), text);
     return NGX_CONF_ERROR;
 }
 
@@ -115,42 +61,54 @@ ngx_http_jwt_read_file(ngx_conf_t *cf, ngx_str_t *name, ngx_str_t *text)
     }
 
     text->len = n;
-    text->data = ngx_pstrdup(cf->pool, text);
-    return text->data != NULL ? NGX_CONF_OK : NGX_CONF_ERROR;
+    return NGX_CONF_OK;
 }
 
 
-/* Reads a key file, and one in PEM as JSON. */
+static void
+ngx_http_jwt_free_keys(void *data)
+{
+    ngx_http_jwt_keys_t  *keys = data;
+
+    jwt_free(&keys->handle);
+}
+
+
+/* Reads a key file, and logs which of its keys are skipped. */
 char *
 ngx_http_jwt_read_key(ngx_conf_t *cf, ngx_http_jwt_key_t *key)
 {
-    char       *rv;
-    uint32_t    status;
-    ngx_str_t   text;
+    char                *rv;
+    size_t               len;
+    uint32_t             status, type;
+    ngx_pool_cleanup_t  *cln;
 
-    rv = ngx_http_jwt_read_file(cf, &key->name, &text);
+    rv = ngx_http_jwt_read_file(cf, &key->name, &key->text);
     if (rv != NGX_CONF_OK) {
         return rv;
     }
 
-    key->text = text;
-    status = jwt_check_set((char *) text.data, text.len);
-    key->is_set = status != JWT_BAD_SET;
-
-    if (!key->is_set) {
-        status = jwt_check_key((char *) text.data, text.len);
+    cln = ngx_pool_cleanup_add(cf->temp_pool, sizeof(ngx_http_jwt_keys_t));
+    if (cln == NULL) {
+        return NGX_CONF_ERROR;
     }
 
-    if (status == JWT_BAD_KEY) {
-        status = ngx_http_jwt_write(jwt_key_from_pem, cf->pool, &text,
-                                    &key->text);
-    }
+    key->keys = cln->data;
+    ngx_memzero(key->keys, sizeof(ngx_http_jwt_keys_t));
+    cln->handler = ngx_http_jwt_free_keys;
 
+    status = jwt_keys_add(&key->keys->handle, JWT_TEXT, key->text.data,
+                          key->text.len, &key->keys->items, &key->keys->kept);
     if (status != JWT_OK) {
-        key->text = text;
         return ngx_http_jwt_report(cf, key, status);
     }
 
+    /* a key that is not in a set has no list of keys */
+    (void) jwt_member((char *) key->text.data, key->text.len, "keys", 4, &type,
+                      NULL, 0, &len);
+    key->keys->is_set = type == JWT_ARRAY;
+
+    ngx_http_jwt_log_skipped(cf->log, key, NULL, key->keys);
     return NGX_CONF_OK;
 }
 
@@ -211,8 +169,11 @@ ngx_http_jwt_free_rules(void *data)
     ngx_http_jwt_rules_t  *rules = data;
 
     for (i = 0; i < rules->count; i++) {
-        jwt_verifier_free(&rules->sources[i].verifier);
-        ngx_free(rules->sources[i].text.data);
+        jwt_free(&rules->sources[i].verifier);
+
+        if (rules->sources[i].key->is_fetched) {
+            ngx_free(rules->sources[i].text.data);
+        }
     }
 }
 
@@ -249,31 +210,81 @@ ngx_http_jwt_add_rules(ngx_pool_t *pool, ngx_http_jwt_loc_conf_t *conf,
 }
 
 
-/* Adds a source, whose verifier is none, or refuses it beside the others. */
-static char *
-ngx_http_jwt_add_source(ngx_conf_t *cf, ngx_http_jwt_rules_t *rules,
-    ngx_http_jwt_key_t *key)
+/* Returns the first source of an issuer, or NULL. */
+ngx_http_jwt_source_t *
+ngx_http_jwt_find_source(ngx_http_jwt_rules_t *rules, ngx_str_t *issuer)
 {
-    const char               *fault = NULL;
-    ngx_http_jwt_source_t    *source = &rules->sources[rules->count++];
-    ngx_http_jwt_loc_conf_t  *conf = rules->conf;
+    ngx_uint_t              i;
+    ngx_http_jwt_source_t  *it = rules->sources;
 
-    source->rules = rules;
-    source->key = key;
+    for (i = 0; i < rules->count; i++) {
+        if (ngx_http_jwt_is_same_text(&it[i].key->issuer, issuer)) {
+            return &it[i];
+        }
+    }
+
+    return NULL;
+}
+
+
+/* Adds the sources, whose verifiers are none. */
+static void
+ngx_http_jwt_add_sources(ngx_http_jwt_rules_t *rules)
+{
+    ngx_uint_t              i;
+    ngx_http_jwt_key_t     *key = rules->conf->keys->elts;
+    ngx_http_jwt_source_t  *source;
+
     rules->is_bound = key->issuer.len > 0;
-    rules->is_fetched |= key->is_fetched;
 
-    if (rules->is_bound && conf->issuers.len > sizeof("null") - 1) {
+    for (i = 0; i < rules->conf->keys->nelts; i++) {
+        source = &rules->sources[rules->count++];
+        source->rules = rules;
+        source->key = &key[i];
+        source->text = key[i].text;
+        source->first = ngx_http_jwt_find_source(rules, &key[i].issuer);
+        source->first->count++;
+        rules->is_fetched |= key[i].is_fetched;
+    }
+}
+
+
+/* Returns whether keys verify with an algorithm of the location. */
+static uint32_t
+ngx_http_jwt_check_keys(ngx_http_jwt_loc_conf_t *conf,
+    ngx_http_jwt_keys_t *keys)
+{
+    struct jwt_key_info  info;
+
+    (void) jwt_keys_info(&keys->handle, JWT_ALL, &info);
+
+    return (info.verifies & conf->bits) != 0 ? JWT_OK : JWT_NO_USABLE_KEY;
+}
+
+
+/* Refuses a source beside the others, or a file without a usable key. */
+static char *
+ngx_http_jwt_check_source(ngx_conf_t *cf, ngx_http_jwt_source_t *source)
+{
+    uint32_t                  status;
+    const char               *fault = NULL;
+    ngx_uint_t                is_bound = source->key->issuer.len > 0;
+    ngx_http_jwt_key_t       *key = source->key;
+    ngx_http_jwt_loc_conf_t  *conf = source->rules->conf;
+
+    if (is_bound && conf->issuers.len > sizeof("null") - 1) {
         fault = "has iss= besides auth_jwt_iss";
 
-    } else if (rules->is_bound != (rules->sources[0].key->issuer.len > 0)) {
+    } else if (is_bound != source->rules->is_bound) {
         fault = "needs iss= if other keys have it, and else has none";
 
-    } else if (!rules->is_bound && conf->keys->nelts > 1 && !key->is_fetched
-               && !key->is_set)
+    } else if (source->first->count > 1 && !key->is_fetched
+               && !key->keys->is_set)
     {
-        fault = "is a single key, which has to be the only source of keys "
-                "if it has no iss=";
+        fault = is_bound ? "is a single key, which has to be the only source "
+                           "of keys with its iss="
+                : "is a single key, which has to be the only source of keys "
+                  "if it has no iss=";
     }
 
     if (fault != NULL) {
@@ -283,46 +294,134 @@ ngx_http_jwt_add_source(ngx_conf_t *cf, ngx_http_jwt_rules_t *rules,
         return NGX_CONF_ERROR;
     }
 
-    return ngx_http_jwt_write_options(cf->pool, conf,
-                                      rules->is_bound ? &key->issuer
-                                      : &conf->issuers, &source->options)
-           == NGX_OK ? NGX_CONF_OK : NGX_CONF_ERROR;
+    status = key->is_fetched ? JWT_OK
+             : ngx_http_jwt_check_keys(conf, key->keys);
+
+    return status == JWT_OK ? NGX_CONF_OK
+           : ngx_http_jwt_report(cf, key, status);
+}
+
+
+/* Adds the keys that the sources of a set have by now, each a set itself. */
+static uint32_t
+ngx_http_jwt_join(ngx_http_jwt_source_t *first, struct jwt_handle *joined)
+{
+    size_t                  items, kept;
+    uint32_t                status = JWT_OK;
+    ngx_http_jwt_rules_t   *rules = first->rules;
+    ngx_http_jwt_source_t  *it;
+
+    for (it = first; it < rules->sources + rules->count; it++) {
+        if (it->first == first && it->text.len > 0 && status == JWT_OK) {
+            status = jwt_keys_add(joined, JWT_SET, it->text.data,
+                                  it->text.len, &items, &kept);
+        }
+    }
+
+    return status;
 }
 
 
 /*
- * Makes the verifier of each key file, and leaves that of the set to fetch as
- * none.  This is done while the configuration is read, so that nginx keeps the
- * old one if a file is bad; workers then use their copies.
+ * Makes the verifier of a set.  The keys are those of its only source, which
+ * are read already, or NULL.
  */
-static char *
-ngx_http_jwt_make_verifiers(ngx_conf_t *cf, ngx_http_jwt_rules_t *rules)
+static uint32_t
+ngx_http_jwt_make_verifier(ngx_http_jwt_source_t *first,
+    ngx_http_jwt_keys_t *keys, size_t prepared, struct jwt_handle *verifier)
 {
-    uint32_t                status;
-    ngx_uint_t              i;
-    ngx_http_jwt_key_t     *key = rules->conf->keys->elts;
-    ngx_http_jwt_source_t  *source = rules->sources;
+    uint32_t            status = JWT_OK;
+    struct jwt_handle   joined = JWT_NONE, *handle = &joined;
 
-    for (i = 0; i < rules->conf->keys->nelts; i++) {
-        if (ngx_http_jwt_add_source(cf, rules, &key[i]) != NGX_CONF_OK) {
-            return NGX_CONF_ERROR;
-        }
+    if (first->count == 1 && keys != NULL) {
+        handle = &keys->handle;
 
-        if (key[i].is_fetched) {
-            continue;
-        }
+    } else {
+        status = ngx_http_jwt_join(first, &joined);
+    }
 
-        status = (key[i].is_set ? jwt_verifier_set : jwt_verifier_key)
-                     ((char *) key[i].text.data, key[i].text.len,
-                      (char *) source[i].options.data, source[i].options.len,
-                      0, 0, 0, &source[i].verifier);
+    if (status == JWT_OK) {
+        status = jwt_verifier_new(handle, (char *) first->options.data,
+                                  first->options.len, 0, prepared, verifier);
+    }
 
-        if (status != JWT_OK) {
-            return ngx_http_jwt_report(cf, &key[i], status);
+    jwt_free(&joined);
+    return status;
+}
+
+
+/* Makes the verifier of the files of a set, or none if it has no file. */
+static char *
+ngx_http_jwt_make_first(ngx_conf_t *cf, ngx_http_jwt_source_t *first)
+{
+    uint32_t                  status;
+    ngx_http_jwt_key_t       *key = first->key;
+    ngx_http_jwt_loc_conf_t  *conf = first->rules->conf;
+
+    if (ngx_http_jwt_write_options(cf->pool, conf,
+                                   key->issuer.len > 0 ? &key->issuers
+                                   : &conf->issuers, &first->options)
+        != NGX_OK)
+    {
+        return NGX_CONF_ERROR;
+    }
+
+    status = ngx_http_jwt_make_verifier(first, key->keys, 0, &first->verifier);
+
+    return status == JWT_OK || status == JWT_NO_KEYS ? NGX_CONF_OK
+           : ngx_http_jwt_report(cf, key, status);
+}
+
+
+/* Keeps the texts of files only if they are read again with fetched sets. */
+static char *
+ngx_http_jwt_keep_texts(ngx_conf_t *cf, ngx_http_jwt_rules_t *rules)
+{
+    ngx_http_jwt_source_t  *it;
+
+    for (it = rules->sources; it < rules->sources + rules->count; it++) {
+        if (!rules->is_fetched) {
+            ngx_str_null(&it->text);
+
+        } else if (!it->key->is_fetched) {
+            it->text.data = ngx_pstrdup(cf->pool, &it->key->text);
+            if (it->text.data == NULL) {
+                return NGX_CONF_ERROR;
+            }
         }
     }
 
     return NGX_CONF_OK;
+}
+
+
+/*
+ * Makes the verifier of each set of key files.  This is done while the
+ * configuration is read, so that nginx keeps the old one if a file is bad;
+ * workers then use their copies.
+ */
+static char *
+ngx_http_jwt_make_verifiers(ngx_conf_t *cf, ngx_http_jwt_rules_t *rules)
+{
+    ngx_http_jwt_source_t  *it, *end;
+
+    ngx_http_jwt_add_sources(rules);
+    end = rules->sources + rules->count;
+
+    for (it = rules->sources; it < end; it++) {
+        if (ngx_http_jwt_check_source(cf, it) != NGX_CONF_OK) {
+            return NGX_CONF_ERROR;
+        }
+    }
+
+    for (it = rules->sources; it < end; it++) {
+        if (it->first == it && ngx_http_jwt_make_first(cf, it) != NGX_CONF_OK)
+        {
+            return NGX_CONF_ERROR;
+        }
+    }
+
+    return ngx_http_jwt_keep_texts(cf, rules);
 }
 
 
@@ -365,53 +464,96 @@ ngx_http_jwt_set_rules(ngx_conf_t *cf, ngx_http_jwt_loc_conf_t *conf)
 }
 
 
-/* Replaces the verifier by that of another set, if that is usable. */
-static uint32_t
-ngx_http_jwt_replace_set(ngx_http_jwt_source_t *source, ngx_str_t *text)
+/* Returns how many bytes of keys are prepared of a set with a fetched one. */
+static size_t
+ngx_http_jwt_prepared(ngx_http_jwt_source_t *first)
 {
-    size_t                prepared = NGX_HTTP_JWT_PREPARED;
-    u_char               *copy;
-    uint32_t              status;
-    struct jwt_verifier   next = JWT_VERIFIER_NONE;
+    size_t                  len = 0;
+    ngx_http_jwt_rules_t   *rules = first->rules;
+    ngx_http_jwt_source_t  *it;
 
-    if (text->len > NGX_HTTP_JWT_LONG) {
-        prepared = JWT_PREPARE_NOTHING;
+    for (it = first; it < rules->sources + rules->count; it++) {
+        len += it->first == first ? it->text.len : 0;
     }
 
-    copy = ngx_alloc(text->len, ngx_cycle->log);
-    if (copy == NULL) {
-        return JWT_OUT_OF_MEMORY;
-    }
+    return len > NGX_HTTP_JWT_LONG ? JWT_PREPARE_NOTHING
+           : NGX_HTTP_JWT_PREPARED;
+}
 
-    status = jwt_verifier_set((char *) text->data, text->len,
-                              (char *) source->options.data,
-                              source->options.len, 0, 0, prepared, &next);
+
+/* Takes a text that is usable, and a verifier of it and of those besides. */
+static uint32_t
+ngx_http_jwt_replace_text(ngx_http_jwt_source_t *source, ngx_str_t *text,
+    ngx_http_jwt_keys_t *keys)
+{
+    uint32_t                status;
+    ngx_str_t               last = source->text;
+    struct jwt_handle       next = JWT_NONE;
+    ngx_http_jwt_source_t  *first = source->first;
+
+    source->text = *text;
+    status = ngx_http_jwt_make_verifier(first, keys,
+                                        ngx_http_jwt_prepared(first), &next);
     if (status != JWT_OK) {
-        ngx_free(copy);
+        source->text = last;
         return status;
     }
 
-    jwt_verifier_free(&source->verifier);
-    ngx_free(source->text.data);
-    ngx_memcpy(copy, text->data, text->len);
-    source->verifier = next;
-    source->text.data = copy;
-    source->text.len = text->len;
+    ngx_free(last.data);
+    jwt_free(&first->verifier);
+    first->verifier = next;
     source->rules->sets++;
 
     return JWT_OK;
 }
 
 
-/* Takes a fetched set, if it is usable. */
+/* Replaces a set, if the next one is usable by itself. */
+static uint32_t
+ngx_http_jwt_replace_set(ngx_http_jwt_source_t *source, ngx_str_t *text,
+    ngx_http_jwt_keys_t *keys)
+{
+    uint32_t   status;
+    ngx_str_t  copy;
+
+    /* one key alone would verify tokens of any kid, also after a rotation */
+    status = jwt_keys_add(&keys->handle, JWT_SET, text->data, text->len,
+                          &keys->items, &keys->kept);
+    if (status == JWT_OK) {
+        status = ngx_http_jwt_check_keys(source->rules->conf, keys);
+    }
+
+    if (status != JWT_OK) {
+        return status;
+    }
+
+    copy.len = text->len;
+    copy.data = ngx_alloc(text->len, ngx_cycle->log);
+    if (copy.data == NULL) {
+        return JWT_OUT_OF_MEMORY;
+    }
+
+    ngx_memcpy(copy.data, text->data, text->len);
+    status = ngx_http_jwt_replace_text(source, &copy, keys);
+
+    if (status != JWT_OK) {
+        ngx_free(copy.data);
+    }
+
+    return status;
+}
+
+
+/* Takes a fetched set, if it is usable.  The same set is not read again. */
 uint32_t
-ngx_http_jwt_take_set(ngx_http_jwt_source_t *source, ngx_array_t *set)
+ngx_http_jwt_take_set(ngx_http_jwt_source_t *source, ngx_array_t *set,
+    ngx_http_jwt_keys_t *keys)
 {
     uint32_t   status = JWT_OK;
     ngx_str_t  text = { set->nelts, set->elts };
 
     if (!source->has_set || !ngx_http_jwt_is_same_text(&source->text, &text)) {
-        status = ngx_http_jwt_replace_set(source, &text);
+        status = ngx_http_jwt_replace_set(source, &text, keys);
     }
 
     if (status == JWT_OK) {

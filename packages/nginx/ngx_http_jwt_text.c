@@ -10,20 +10,23 @@ uint32_t
 ngx_http_jwt_write(ngx_http_jwt_call_pt call, ngx_pool_t *pool, ngx_str_t *in,
     ngx_str_t *out)
 {
+    size_t    size;
     uint32_t  status;
 
-    status = call((char *) in->data, in->len, NULL, 0, &out->len);
-    if (status != JWT_BUFFER_TOO_SMALL) {
-        return status;
-    }
+    out->len = in->len + NGX_HTTP_JWT_ROOM;
 
-    out->data = ngx_pnalloc(pool, out->len);
-    if (out->data == NULL) {
-        return JWT_OUT_OF_MEMORY;
-    }
+    do {
+        size = out->len;
+        out->data = ngx_pnalloc(pool, size);
+        if (out->data == NULL) {
+            return JWT_OUT_OF_MEMORY;
+        }
 
-    return call((char *) in->data, in->len, (char *) out->data, out->len,
-                &out->len);
+        status = call((char *) in->data, in->len, (char *) out->data, size,
+                      &out->len);
+    } while (status == JWT_BUFFER_TOO_SMALL);
+
+    return status;
 }
 
 
@@ -33,6 +36,16 @@ ngx_http_jwt_header(const char *token, size_t token_len, char *buffer,
     size_t buffer_len, size_t *len)
 {
     return jwt_unverified(token, token_len, JWT_HEADER, buffer, buffer_len,
+                          len);
+}
+
+
+/* The call for the payload of a token, of which nothing is verified. */
+enum jwt_status
+ngx_http_jwt_payload(const char *token, size_t token_len, char *buffer,
+    size_t buffer_len, size_t *len)
+{
+    return jwt_unverified(token, token_len, JWT_PAYLOAD, buffer, buffer_len,
                           len);
 }
 

@@ -10,7 +10,7 @@ import tempfile
 import threading
 import time
 
-from harness import CONNECTIONS, NOW, Server, Watched, eventually, free_port, made, oct_key, resident, signed, started, test, under_valgrind
+from harness import CONNECTIONS, MANY, NOW, Server, Watched, eventually, free_port, made, many_items, oct_key, resident, signed, started, test, under_valgrind, warnings
 from key_server import KeyServer, close, cut, endless, frame, hang, head, http2, late, memcached, short, stop_midway, whole
 
 SECRETS = {kid: f"the secret of the key {kid}, of 32 bytes or more".encode() for kid in "abcdefgh"}
@@ -39,10 +39,15 @@ FETCHED = """
     # files and an uri
     location /files {{ auth_jwt files; auth_jwt_key_file {work}/a.json; auth_jwt_key_file {work}/b.json; }}
     location /both {{ auth_jwt both; auth_jwt_key_file {work}/g.json; auth_jwt_key_request /keys; }}
+    location /joined {{ auth_jwt joined; auth_jwt_key_file {work}/a.json; auth_jwt_key_request /keys; auth_jwt_key_file {work}/last.json; }}
     # each source has an issuer
     location /bound {{
         auth_jwt bound; auth_jwt_key_request /keys iss=a.example; auth_jwt_key_request /others iss=b.example;
         auth_jwt_key_file {work}/g.json iss=g.example;
+    }}
+    location /bound_both {{
+        auth_jwt bound; auth_jwt_key_file {work}/last.json iss=b.example; auth_jwt_key_request /keys iss=a.example;
+        auth_jwt_key_request /others iss=b.example;
     }}
     location = /others {{ internal; proxy_pass http://127.0.0.1:{others}/jwks; }}
     location /named {{ auth_jwt named; auth_jwt_key_file {work}/a.json; auth_jwt_iss a.example; }}
@@ -116,6 +121,7 @@ def servers(module):
         server.others, server.backend = others, backend
         for kid in "abg":
             server.write(f"{kid}.json", {"keys": keys(kid)})
+        server.write("last.json", {"keys": [*keys("b"), oct_key("c", SECRETS["h"])]})
         server.write("set.json", {"keys": keys("a")})
         server.write("single.json", keys("b")[0])
         server.keys, server.http2, server.now = served, http2_port, NOW
@@ -192,7 +198,6 @@ def faults(server):
     server.keys.answer = whole(keys("a"))
     later(server, OLD)
     eventually(lambda: server.get("/", token("a"))[0] == 200)
-    blank = oct_key("c", b"")
     many = [oct_key("c", SECRETS["c"])] + [oct_key(f"{n}", b"x" * 80) for n in range(10000)]
     for name, answer in (
         ("a closed connection", close),
@@ -207,10 +212,16 @@ def faults(server):
         ("a redirect", whole(keys("c"), "302 Found", "Location: /\r\n")),
         ("nothing", whole("")),
         ("an empty set", whole([])),
-        ("a set of other kinds", whole([{"kty": "RSA", "kid": "c", "n": "AQAB", "e": "AQAB"}])),
-        ("a set with a key that anyone has", whole([*keys("c"), blank])),
-        ("a set with the text of a key as secret", whole([*keys("c"), oct_key("d", b"-----BEGIN PUBLIC KEY-----")])),
+        ("a set of a weak key", whole([{"kty": "RSA", "kid": "c", "n": "AQAB", "e": "AQAB"}])),
+        ("a set of a key that anyone has", whole([oct_key("c", b"")])),
+        ("a set of the text of a key as secret", whole([oct_key("c", b"-----BEGIN PUBLIC KEY-----")])),
+        ("a set of odd items", whole([7, {"kty": "AKP", "kid": "c"}, {**keys("c")[0], "use": "enc"}])),
+        ("a set of another family", whole(curve_keys(1))),
+        ("a set without a kid", whole([{"kty": "oct", "k": keys("c")[0]["k"]}])),
+        ("a set whose kids are null", whole([{**it, "kid": None} for it in keys("c") + curve_keys(1)])),
         ("a single key", whole(json.dumps(keys("c")[0]))),
+        ("a single key with keys that are no list", whole(json.dumps({**keys("c")[0], "keys": {}}))),
+        ("a public key in PEM", whole("-----BEGIN PUBLIC KEY-----\nMCowBQYDK2VwAyEA11qYAYKxCrfVS/7TyWQHOg7hcvPapiMlrwIaaPcHURo=\n-----END PUBLIC KEY-----\n")),
         ("no HTTP", lambda connection: connection.sendall(b"x" * 5000)),
         ("a set of more than 1 MiB", whole(many)),
         ("more than 1 MiB without a length", lambda connection: connection.sendall(head() + b" " * 1048577 + json.dumps({"keys": keys("c")}).encode())),
@@ -233,8 +244,24 @@ def faults(server):
         test(f"a token without a kid is refused, and causes no fetch: {header}", server.get("/", nameless)[0] == 401 and len(server.keys.asked) == before)
     said = server.read("error.log")
     test("the faults are reported", said.count('auth_jwt: no keys from "/keys" of server "') >= 20)
-    for cause in (r"status 500, \d+ bytes: another status than 200", ": more than 1 MiB", ": cut", ": Invalid key set", ": No key fits the algorithms: each key is for other algorithms, malformed, too weak or without a kid; jwt keys FILE shows which", ": Secret is empty or all zeros"):
-        test(f"a fault is reported: {cause}", re.search(f"no keys from .*{cause}", said))
+    unusable = ": No key fits the algorithms: keys[0] is "
+    for cause in (
+        "status 500, ",
+        " bytes: another status than 200",
+        ": more than 1 MiB",
+        ": cut",
+        ": no JSON Web Key Set\n",
+        ": No key fits the algorithms: the set is empty\n",
+        f"{unusable}skipped: Key fits no algorithm\n",
+        f"{unusable}skipped: Secret is empty or all zeros\n",
+        f"{unusable}skipped: Secret is the text of a key\n",
+        f"{unusable}skipped: Invalid key; keys[1] is skipped: UnsupportedAlgorithm; keys[2] is skipped: Key is not for signatures\n",
+        f"{unusable}for ES256\n",
+        f"{unusable}for HS256, HS384, HS512, without a kid\n",
+        f"{unusable}for HS256, HS384, HS512, without a kid; keys[1] is for ES256, without a kid\n",
+    ):
+        test(f"a fault is reported: {cause}", re.search(f"no keys from .*{re.escape(cause)}", said))
+    test("no key of a set that is not taken is in a line of its own", not warnings(server, "request"))
     server.keys.answer = whole(keys("c"))
     later(server, PAUSE)
     asks(server, "a good set after them", {"c": 200, "a": 401, "b!": 401}, 1)
@@ -248,6 +275,53 @@ def faults(server):
     server.keys.answer = whole(keys("a"))
     later(server, PAUSE)
     asks(server, "a small set after it", {"a": 200, "e": 401}, 1)
+
+
+def odd(server):
+    """Odd items of a fetched set are skipped, and logged once; the last good set stays if no key of the next one is usable."""
+    seen = len(warnings(server, "request"))
+
+    def said():
+        return warnings(server, "request")[seen:]
+
+    of_keys = ' "/keys" of server "": '
+    server.keys.answer = whole([{"kty": "AKP", "kid": "c"}, *keys("c"), {**keys("d")[0], "use": "enc"}, {**keys("e")[0], "kid": 7}, oct_key("f", b""), {**keys("g")[0], "alg": "HS512"}])
+    wanted = [f"{of_keys}keys[{at}] is skipped: {reason}" for at, reason in ((0, "UnsupportedAlgorithm"), (2, "Key is not for signatures"), (3, "Invalid key"), (4, "Secret is empty or all zeros"))]
+    later(server, PAUSE)
+    asks(server, "a set with odd items", {"e": 401, "c": 200, "d": 401, "f": 401, "g": 401, "c!": 401, "a": 401}, 1)
+    test(f"what is skipped: {said()}, wanted {wanted}", said() == wanted)
+    _, headers = server.get("/", signed({"exp": NOW + 10**6}, b"", kid="f"))
+    test(f"an empty secret: {headers['X-Status']}", headers["X-Status"] == "NoKey")
+    later(server, OLD)
+    asks(server, "the same set again", {"c": 200}, 1)
+    time.sleep(0.3)
+    test("it is logged once", said() == wanted)
+    server.keys.answer = whole([{"kty": "AKP", "kid": "c"}, {**keys("d")[0], "use": "enc"}])
+    later(server, PAUSE)
+    asks(server, "a set of odd items alone", {"d": 503, "c": 200}, 1)
+    reasons = "keys[0] is skipped: UnsupportedAlgorithm; keys[1] is skipped: Key is not for signatures\n"
+    test("its reasons are in the log", re.search(rf"\[error\] .*no keys from{re.escape(of_keys)}status 200, \d+ bytes: No key fits the algorithms: {re.escape(reasons)}", server.read("error.log")))
+    test("and in no line of their own", said() == wanted)
+    server.keys.answer = whole(keys("a"))
+    later(server, PAUSE)
+    asks(server, "a set without odd items", {"a": 200, "c": 401}, 1)
+    test("nothing is skipped", said() == wanted)
+
+
+def many_odd(server):
+    """A fetched set of a great number of odd items has the key at its end, and does not fill the log."""
+    seen = len(warnings(server, "request"))
+    server.keys.answer = whole(many_items(keys("b")[0]))
+    later(server, PAUSE)
+    began = time.monotonic()
+    asks(server, f"{MANY} odd items", {"b": 200, "c": 401}, 1)
+    test(f"{MANY} odd items: {time.monotonic() - began} s", time.monotonic() - began < 5)
+    said = [it.partition(": ")[2] for it in warnings(server, "request")[seen:]]
+    wanted = [*(f"keys[{at}] is skipped: Invalid key" for at in range(10)), f"also skipped: {MANY - 10} of {MANY + 1} keys"]
+    test(f"what is skipped of them: {said}, wanted {wanted}", said == wanted)
+    server.keys.answer = whole(keys("a"))
+    later(server, PAUSE)
+    asks(server, "a small set after them", {"a": 200, "b": 401}, 1)
 
 
 # the prime of P-256 and its base point (FIPS 186-4, D.1.2.3)
@@ -528,6 +602,24 @@ def sources(server):
     asks(server, "a stored answer, which nginx sends from a file", {"b": 401, "a": 200}, 0, "/of_store")
 
 
+def joined(server):
+    """Two files and a fetched set are one set: the first key of a kid counts, in the order of the directives, and one verifier decides."""
+    server.keys.answer = whole([oct_key("a", SECRETS["h"]), *keys("c")])
+    later(server, PAUSE)
+    asks(server, "the files before the first set", {"c!": 200}, 1, "/joined")
+    test("the set comes between the files", eventually(lambda: server.get("/joined", token("c"))[0] == 200))
+    asks(server, "the first key of each kid", {"a": 200, "a!": 401, "b": 200, "b!": 401, "c": 200, "c!": 401, "d": 401}, 0, "/joined")
+    calls = {kid: server.ask("/joined", token(kid[0], SECRETS["h"] if kid.endswith("!") else None, sub="once")) for kid in ("a", "b", "c", "c!", "d")}
+    test(f"one verifier for a token: {calls}", calls == {"a": (200, 1), "b": (200, 1), "c": (200, 1), "c!": (401, 1), "d": (401, 1)})
+    for name, answer in (("of another family", curve_keys(1)), ("of an encrypting key", [{**keys("d")[0], "use": "enc"}]), ("without a key", [])):
+        server.keys.answer = whole(answer)
+        later(server, PAUSE)
+        asks(server, f"a set {name} next to files", {"d": 503, "c": 200, "c!": 401, "a": 200, "a!": 401, "b": 200}, 1, "/joined")
+    server.keys.answer = whole(keys("d"))
+    later(server, PAUSE)
+    asks(server, "a set without the kids of files", {"d": 200, "c": 401, "c!": 200, "a": 200, "a!": 401, "b": 200}, 1, "/joined")
+
+
 def bound(server):
     """Keys that are of an issuer verify its tokens alone, whatever their kid is."""
 
@@ -547,17 +639,24 @@ def bound(server):
         ("a set", accepted, "a", "a.example"),
         ("a single key", accepted, "b", "b.example"),
         ("a single key by a kid of the set", accepted, "a", "b.example", "b"),
-        ("the key of one in the name of the other", other_issuer, "a", "b.example"),
-        ("the single key in the name of the other", other_issuer, "b", "a.example"),
-        ("the single key in the name of the other, by its kid", other_issuer, "a", "a.example", "b"),
+        ("the key of one in the name of the other", other_signature, "a", "b.example"),
+        ("the single key in the name of the other", no_key, "b", "a.example"),
+        ("the single key in the name of the other, by its kid", other_signature, "a", "a.example", "b"),
         ("another name", other_issuer, "a", "c.example"),
-        ("no key", other_signature, "c", "a.example"),
+        ("another name, signed by nobody", other_issuer, "a", "c.example", "h"),
+        ("a part of its name", other_issuer, "a", "a.exampl"),
+        ("its name in capitals", other_issuer, "a", "A.example"),
+        ("an empty name", other_issuer, "a", ""),
+        ("no key", no_key, "c", "a.example"),
         ("a list of its name", other_issuer, "a", ["a.example"]),
         ("a list of both names", other_issuer, "a", ["a.example", "b.example"]),
-        ("a list of both names, by the single key", other_issuer, "b", ["b.example", "a.example"]),
+        ("a list of both names, by the single key", no_key, "b", ["b.example", "a.example"]),
         ("a list of the other name", other_issuer, "a", ["b.example"]),
     ):
         tells(f"files, {name}", wanted, (0, 0), "/bound_files", *given)
+    unnamed(server)
+    calls = [server.ask("/bound_files", token(kid, iss=issuer, sub="once")) for kid, issuer in (("a", "a.example"), ("b", "b.example"), ("a", "b.example"), ("a", "c.example"))]
+    test(f"one verifier for a token: {calls}", calls == [(200, 1), (200, 1), (401, 1), (401, 0)])
     got = [server.get(path, token("a", iss=["a.example", "x"]))[1]["X-Test"] for path in ("/bound_files", "/named")]
     test(f"the test that a list fails: {got}", got == ["IssuerIsOneText", None])
     test("a list as issuer without iss=", server.get("/named", token("a", iss=["x", "a.example"]))[0] == 200)
@@ -566,36 +665,95 @@ def bound(server):
     server.keys.answer, server.others.answer = late(0.3, whole(keys("a"))), whole(keys("b"))
     tells("the first token", accepted, (1, 1), "/bound", "b", "b.example")
     test("the other set comes too", eventually(lambda: server.get("/bound", token("a", iss="a.example"))[0] == 200))
-    tells("the other in its name", other_issuer, (0, 0), "/bound", "a", "b.example")
+    tells("the other in its name", no_key, (0, 0), "/bound", "a", "b.example")
     tells("a file next to them", accepted, (0, 0), "/bound", "g", "g.example")
     tells("a kid of none, too early", no_key, (0, 0), "/bound", "c", "a.example")
     # a new key has a kid that the other issuer has too
     server.keys.answer, server.others.answer = whole(keys("a")), whole([oct_key("a", SECRETS["c"]), *keys("b")])
-    tells("a new key by a kid of the other, too early", other_signature, (0, 0), "/bound", "a", "b.example", "c")
+    tells("a new key by a kid of the other, too early", no_key, (0, 0), "/bound", "a", "b.example", "c")
     later(server, PAUSE)
     tells("a new key by a kid of the other", accepted, (0, 1), "/bound", "a", "b.example", "c")
-    tells("that key in the name of the other", other_issuer, (0, 0), "/bound", "a", "a.example", "c")
+    tells("that key in the name of the other", other_signature, (0, 0), "/bound", "a", "a.example", "c")
+    tells("a kid that the other alone has", no_key, (1, 0), "/bound", "b", "a.example")
+    tells("that kid in its name", accepted, (0, 0), "/bound", "b", "b.example")
     tells("the other's key of that kid", accepted, (0, 0), "/bound", "a", "a.example")
     tells("neither's key of that kid", other_signature, (0, 0), "/bound", "a", "a.example", "h")
+    # one of them answers late, while fetches from the other fail
+    done, got = threading.Event(), []
+
+    def drip(connection):
+        connection.sendall(head())
+        while not done.wait(0.2):
+            connection.sendall(b" ")
+        connection.sendall(json.dumps({"keys": keys("af")}).encode())
+
+    server.keys.answer, server.others.answer = drip, close
+    later(server, PAUSE)
+    before = len(server.keys.asked)
+    thread = threading.Thread(target=lambda: got.append(server.get("/bound", token("f", iss="a.example"))[0]))
+    thread.start()
+    test("a fetch that takes long", eventually(lambda: len(server.keys.asked) == before + 1))
+    for _ in range(4):
+        tells("a kid of none of the other", (503, "NoKey"), (0, 1), "/bound", "d", "b.example")
+        later(server, PAUSE)
+    test("one issuer's tokens wait for its keys alone", not got)
+    done.set()
+    thread.join()
+    test(f"a token of the late one: {got}", got == [200])
+    server.keys.answer, server.others.answer = whole(keys("a")), whole([oct_key("a", SECRETS["c"]), *keys("b")])
+    later(server, PAUSE)
+    tells("the keys from before, of one", no_key, (1, 0), "/bound", "d", "a.example")
+    tells("and of the other", no_key, (0, 1), "/bound", "d", "b.example")
     # one of them is down
     server.others.answer = close
     later(server, PAUSE)
-    tells("a kid of none, and a fetch that fails", (503, "NoKey"), (1, 1), "/bound", "c", "a.example")
+    tells("a kid of none, and a fetch that fails", (503, "NoKey"), (0, 1), "/bound", "c", "b.example")
+    tells("a kid of none, and a fetch of the other that succeeds", no_key, (1, 0), "/bound", "c", "a.example")
     tells("a token of the other", accepted, (0, 0), "/bound", "a", "a.example")
     tells("an expired one of the other", (401, "ExpiredSignature"), (0, 0), "/bound", "a", "a.example", exp=NOW - 5)
     server.others.answer = whole(keys("b"))
     later(server, PAUSE)
-    tells("a kid of none, and a fetch that succeeds", no_key, (1, 1), "/bound", "c", "a.example")
-    tells("a key that was removed", other_signature, (0, 0), "/bound", "a", "b.example", "c")
+    tells("a kid of none, and a fetch that succeeds", no_key, (0, 1), "/bound", "c", "b.example")
+    tells("a key that was removed", no_key, (0, 0), "/bound", "a", "b.example", "c")
     # the address of one gives the set of the other, whose keys then sign in the name of both, and in no third one
     server.others.answer = whole(keys("a"))
     later(server, PAUSE)
-    tells("a kid of none, and a set of the other's", no_key, (1, 1), "/bound", "c", "b.example")
+    tells("a kid of none, and a set of the other's", no_key, (0, 1), "/bound", "c", "b.example")
     tells("a key of the other's set, in the name of this one", accepted, (0, 0), "/bound", "a", "b.example")
     tells("a key of the other's set, in its name", accepted, (0, 0), "/bound", "a", "a.example")
     tells("a key of the set before it", no_key, (0, 0), "/bound", "b", "b.example")
-    for issuer in ("g.example", "c.example", "", "a.example b.example", ["a.example"]):
+    tells("a key of the other's set, in the name of a file", no_key, (0, 0), "/bound", "a", "g.example")
+    for issuer in ("c.example", "", "a.example b.example", ["a.example"]):
         tells(f"a key of the other's set, in the name {issuer}", other_issuer, (0, 0), "/bound", "a", issuer)
+    # a file and a fetched set of one issuer are one set
+    server.keys.answer, server.others.answer = whole(keys("a")), whole(keys("bcd"))
+    tells("a file and a set of its issuer, before the set", accepted, (1, 1), "/bound_both", "c", "b.example", "h")
+    test("the set comes too", eventually(lambda: server.get("/bound_both", token("d", iss="b.example"))[0] == 200))
+    tells("the first key of the kid", accepted, (0, 0), "/bound_both", "c", "b.example", "h")
+    tells("the second key of the kid", other_signature, (0, 0), "/bound_both", "c", "b.example")
+    later(server, PAUSE)
+    tells("a kid of that set in the name of the other", no_key, (1, 0), "/bound_both", "d", "a.example")
+    server.others.answer = whole(keys("bcde"))
+    tells("a new kid", accepted, (0, 1), "/bound_both", "e", "b.example")
+    tells("a key of the other, in this name", no_key, (0, 0), "/bound_both", "a", "b.example")
+
+
+def unnamed(server):
+    """A token that names no issuer, or of which nothing can be read, is refused by a verifier."""
+    good = token("a", iss="a.example")
+    head, payload, signature = good.split(".")
+    for name, text, wanted in (
+        ("no iss", token("a"), "Missing required claim: iss"),
+        ("an iss of null", token("a", iss=None), "Missing required claim: iss"),
+        ("an iss of a number", token("a", iss=7), "Missing required claim: iss"),
+        ("a payload that is no base64url", f"{head}.{payload}!.{signature}", "InvalidSignature"),
+        ("a payload that is no JSON", made.signed({"alg": "HS256", "kid": "a"}, b"{", SECRETS["a"], "sha256").decode(), "JSON error"),
+        ("a payload that is no object", made.signed({"alg": "HS256", "kid": "a"}, [1], SECRETS["a"], "sha256").decode(), "JSON error"),
+        ("one dot", f"{head}.{payload}", "InvalidToken"),
+        ("a text", "text", "InvalidToken"),
+    ):
+        status, headers = server.get("/bound_files", text)
+        test(f"{name}: {status} {headers['X-Status']}, wanted {wanted}", (status, headers["X-Status"]) == (401, wanted))
 
 
 def protocols(server):
@@ -672,7 +830,7 @@ def multiplexed(server):
     test("HTTP/2 and an unknown key", streams(server.http2, headers, 3) == 0)
 
 
-ALL = (rotation, faults, waiting, neutral, cuts, cut_often, crowded, given_up, never, sources, bound, protocols, places, multiplexed)
+ALL = (rotation, faults, odd, many_odd, waiting, neutral, cuts, cut_often, crowded, given_up, never, sources, joined, bound, protocols, places, multiplexed)
 
 
 def run(module):
@@ -802,5 +960,5 @@ def run_valgrind(module):
     """The same under valgrind, which is slower, so that what depends on time is left out."""
     with servers(module) as server:
         with under_valgrind(server):
-            for part in (rotation, neutral, cuts, cut_often, given_up, never, sources, bound, protocols, places, multiplexed):
+            for part in (rotation, odd, neutral, cuts, cut_often, given_up, never, sources, joined, bound, protocols, places, multiplexed):
                 part(server)

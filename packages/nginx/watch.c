@@ -1,7 +1,7 @@
 /*
  * For test.py, in front of the libraries of an nginx (LD_PRELOAD): the time of
- * day is the number in the file MOMENT, and each token and each key or set that
- * the library is asked about adds a byte to the file CALLS.
+ * day is the number in the file MOMENT, and each token and each text of keys
+ * that the library reads adds a byte to the file CALLS.
  */
 #define _GNU_SOURCE
 #include <dlfcn.h>
@@ -11,9 +11,10 @@
 #include <sys/time.h>
 #include <unistd.h>
 
-typedef enum jwt_status decode(struct jwt_verifier *, const char *, size_t,
+typedef enum jwt_status decode(struct jwt_handle *, const char *, size_t,
     uint64_t, char *, size_t, size_t *, uint64_t *, uint32_t *);
-typedef enum jwt_status check(const char *, size_t);
+typedef enum jwt_status add(struct jwt_handle *, uint32_t, const uint8_t *,
+    size_t, size_t *, size_t *);
 
 
 static ssize_t
@@ -69,7 +70,7 @@ behind(const char *name)
 
 
 enum jwt_status
-jwt_verifier_decode(struct jwt_verifier *verifier, const char *token,
+jwt_verifier_decode(struct jwt_handle *verifier, const char *token,
     size_t token_len, uint64_t now, char *buffer, size_t buffer_len,
     size_t *len, uint64_t *last, uint32_t *test)
 {
@@ -82,20 +83,11 @@ jwt_verifier_decode(struct jwt_verifier *verifier, const char *token,
 
 
 enum jwt_status
-jwt_check_set(const char *set, size_t set_len)
+jwt_keys_add(struct jwt_handle *keys, uint32_t source, const uint8_t *bytes,
+    size_t bytes_len, size_t *items, size_t *kept)
 {
-    check  *found;
+    add  *found;
 
-    found = behind("jwt_check_set");
-    return found(set, set_len);
-}
-
-
-enum jwt_status
-jwt_check_key(const char *key, size_t key_len)
-{
-    check  *found;
-
-    found = behind("jwt_check_key");
-    return found(key, key_len);
+    found = behind("jwt_keys_add");
+    return found(keys, source, bytes, bytes_len, items, kept);
 }
