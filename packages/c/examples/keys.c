@@ -11,7 +11,7 @@ static const char set[] = "{\"keys\":[{\"kty\":\"OKP\",\"kid\":\"ed\",\"crv\":\"
 static const char eddsa[] = "eyJhbGciOiJFZERTQSIsImtpZCI6ImVkIiwidHlwIjoiSldUIn0"
                             ".eyJzdWIiOiJiQGIuY29tIiwiY29tcGFueSI6IkFDTUUiLCJleHAiOjI1MzI1MjQ4OTF9"
                             ".V2f0xjCRmHrHKsWhMzrp91OvOYSkwrdUIAjseMaWsY8Asjt9PsiSUrdH4sW2H_e7eJ_Xc2pFoN_vAUCvw2njAw";
-/* a set with that key, a key for encryption, one of a kind that the library does not have, and a secret of zeros, with which anyone can sign */
+/* a set with that key, a key for encryption, one of a kind that the library does not have, and a secret of zeros */
 static const char odd_set[] = "{\"keys\":[{\"kty\":\"RSA\",\"use\":\"enc\",\"n\":\"AQAB\",\"e\":\"AQAB\"},"
                               "{\"kty\":\"AKP\",\"alg\":\"ML-DSA-44\",\"pub\":\"AA\"},"
                               "{\"kty\":\"OKP\",\"kid\":\"ed\",\"crv\":\"Ed25519\","
