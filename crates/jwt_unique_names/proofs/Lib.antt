@@ -1,0 +1,4 @@
+pub mod Bytes
+pub mod Tokens
+pub mod Kept
+pub mod Texts

@@ -1,0 +1,2 @@
+-- Definitions that the clauses of private functions alone name.
+pub mod Counts
