@@ -182,7 +182,7 @@ module _ {T : Type 0} (call : Call T) where
     pub same_parts : parts_known b ≡ true → t.parts ≡ s.parts
     same_parts e = one_way call.token t.parts s.parts (met b t p HasThreeParts e) (met b s q HasThreeParts e)
 
-    same_bytes : bytes_known b ≡ true → t.header_bytes ≡ s.header_bytes
+    pub same_bytes : bytes_known b ≡ true → t.header_bytes ≡ s.header_bytes
     same_bytes e = let k = engine.both_true (parts_known b) (is_in HeaderIsBase64url b) e in
         one_part s.parts.header _ _ (rw (same_parts k.0) at (met b t p HeaderIsBase64url k.1)) (met b s q HeaderIsBase64url k.1)
 
@@ -211,7 +211,7 @@ module _ {T : Type 0} (call : Call T) where
     same_signature e = let k = engine.both_true (parts_known b) (is_in SignatureIsBase64url b) e in
         one_part s.parts.signature _ _ (rw (same_parts k.0) at (met b t p SignatureIsBase64url k.1)) (met b s q SignatureIsBase64url k.1)
 
-    same_payload : payload_known b ≡ true → t.payload_bytes ≡ s.payload_bytes
+    pub same_payload : payload_known b ≡ true → t.payload_bytes ≡ s.payload_bytes
     same_payload e = let k = engine.both_true (parts_known b) (is_in PayloadIsBase64url b) e in
         one_part s.parts.payload _ _ (rw (same_parts k.0) at (met b t p PayloadIsBase64url k.1)) (met b s q PayloadIsBase64url k.1)
 

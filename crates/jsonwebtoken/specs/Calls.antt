@@ -1,8 +1,6 @@
 -- The calls that the contracts speak of: the arguments of an entry point, with the relations of its
 -- provider and its type of claims, and how its result shows the contents of a token.
 use Rattle.std.specs.Prelude.{◌≡◌, ℕ, List}
-use Rattle.serde_json.specs.View.{view}
-use Rattle.serde_json.specs.declared.value.Value.{Value}
 use Rattle.jwt_base.specs.declared.json.claims.Claims.{Ghosts as ClaimsOf}
 use Rattle.jwt_header.specs.declared.header.Header.{Header}
 use Rattle.jwt_keys.specs.Key.{Key}
@@ -47,10 +45,6 @@ Carries call t answer = (t.header ≡ answer.header) × call.reads t.payload_val
 -- the header alone
 abbrev pub HasHeader : {T : Type 0} → Call T → Contents → Header → Type 0
 HasHeader call t header = t.header ≡ header
-
--- the JSON value of the header alone
-abbrev pub HasHeaderValue : Contents → Value → Type 0
-HasHeaderValue t value = t.header_value ≡ view value
 
 -- the header, what is signed (RFC 7515 section 5.1), and the signature's bytes
 abbrev pub HasSigned : {T : Type 0} → Call T → Contents → SignedPart → Type 0

@@ -218,9 +218,12 @@ verifying_tests = signature_tests ++ claim_tests
 abbrev pub header_order : List Test
 header_order = HasThreeParts ∷ header_tests
 
--- the tests of a token whose header is read as a JSON value alone
-abbrev pub header_value_order : List Test
-header_value_order = HasThreeParts ∷ HeaderIsBase64url ∷ HeaderIsJson ∷ []
+-- the tests of a token of which the bytes of one part are asked for
+abbrev pub header_bytes_order : List Test
+header_bytes_order = HasThreeParts ∷ HeaderIsBase64url ∷ []
+
+abbrev pub payload_bytes_order : List Test
+payload_bytes_order = HasThreeParts ∷ PayloadIsBase64url ∷ []
 
 -- the tests of a token before its signature is checked elsewhere
 abbrev pub signed_order : List Test

@@ -2,19 +2,19 @@
 //! the signature nor the claim rules are tested.
 
 ghost use Rattle.std.specs.Prelude.{◌≡◌};
-ghost use Rattle.jsonwebtoken.specs.Calls.{Carries, HasClaims, HasHeaderValue};
+ghost use Rattle.jsonwebtoken.specs.Calls.{Carries, HasClaims};
 ghost use Rattle.jsonwebtoken.specs.Order.{Decides};
 ghost use Rattle.jsonwebtoken.specs.Steps.{Step};
 ghost use Rattle.jsonwebtoken.specs.private_clauses.Steps.{whole};
 ghost use Rattle.jsonwebtoken.specs.Tests.{insecure_order, insecure_claims_order, insecure_call};
-ghost use Rattle.jsonwebtoken.specs.Tests.{header_call, header_value_order, token_tests};
+ghost use Rattle.jsonwebtoken.specs.Tests.{header_bytes_order, header_call, payload_bytes_order};
+ghost use Rattle.jsonwebtoken.specs.Tests.{token_tests};
 
-use crate::decoding::steps::{read_header, read_json, read_part, read_payload, token_parts};
+use crate::decoding::steps::{read_header, read_part, read_payload, token_parts};
 use crate::decoding::{TokenData, token_data};
 use crate::refusal::{Refusal, Test, without_test};
 use jwt_base::errors::Result;
 use jwt_base::json::Claims;
-use serde_json::Value;
 use std::alloc::Global;
 
 /// Returns the header and the claims of a token in its compact form. Nothing is verified.
@@ -40,26 +40,45 @@ pub fn insecure_decode_claims<T: Claims>(alloc: Global, token: &[u8]) -> Result<
     without_test(insecure_decode_claims_by_steps(alloc, token))
 }
 
-/// Returns the JSON value of a token's header, of any algorithm. Nothing is verified, and the payload is
-/// not read.
+/// Returns the bytes that the header part of a token stands for, of any algorithm. Nothing is verified,
+/// and the bytes are not read.
 ///
-/// The tests are those of [`insecure_decode`] on the dots and the header part, without that of what
-/// the value means as a header.
-pub fn insecure_decode_header_value(alloc: Global, token: &[u8]) -> Result<Value>
-    ensures { Decides (token_tests (header_call token.now)) header_value_order HasHeaderValue
-        result }
+/// The tests are those of [`insecure_decode`] on the dots and on the base64url of the header part.
+pub fn insecure_header_bytes(alloc: Global, token: &[u8]) -> Result<Vec<u8>>
+    ensures { Decides (token_tests (header_call token.now)) header_bytes_order
+        (λ t b. t.header_bytes ≡ b.items) result }
 {
-    without_test(header_value_by_steps(alloc, token))
+    without_test(header_bytes_by_steps(alloc, token))
 }
 
-fn header_value_by_steps(alloc: Global, token: &[u8]) -> Result<Value, Refusal>
-    ensures { Step (header_call token.now) header_value_order whole HasHeaderValue result }
+/// Returns the bytes that the payload part of a token stands for. Nothing is verified, and the bytes
+/// are not read.
+///
+/// The tests are those of [`insecure_decode`] on the dots and on the base64url of the payload part.
+pub fn insecure_payload_bytes(alloc: Global, token: &[u8]) -> Result<Vec<u8>>
+    ensures { Decides (token_tests (header_call token.now)) payload_bytes_order
+        (λ t b. t.payload_bytes ≡ b.items) result }
+{
+    without_test(payload_bytes_by_steps(alloc, token))
+}
+
+fn header_bytes_by_steps(alloc: Global, token: &[u8]) -> Result<Vec<u8>, Refusal>
+    ensures { Step (header_call token.now) header_bytes_order whole
+        (λ t b. t.header_bytes ≡ b.items) result }
 {
     let parts = token_parts(token)?;
-    let bytes = read_part(alloc, Test::HeaderIsBase64url, parts.header)?;
     // named for the proof
-    let value = read_json(alloc, Test::HeaderIsJson, bytes.as_slice())?;
-    Ok(value)
+    let bytes = read_part(alloc, Test::HeaderIsBase64url, parts.header)?;
+    Ok(bytes)
+}
+
+fn payload_bytes_by_steps(alloc: Global, token: &[u8]) -> Result<Vec<u8>, Refusal>
+    ensures { Step (header_call token.now) payload_bytes_order whole
+        (λ t b. t.payload_bytes ≡ b.items) result }
+{
+    let parts = token_parts(token)?;
+    let bytes = read_part(alloc, Test::PayloadIsBase64url, parts.payload)?;
+    Ok(bytes)
 }
 
 fn insecure_decode_by_steps<T: Claims>(alloc: Global, token: &[u8]) -> Result<TokenData<T>, Refusal>
