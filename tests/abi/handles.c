@@ -1,27 +1,14 @@
-/* Tests of the calls for C with handles of keys: which items are kept, the reasons of the others, slips, and want of memory. The last line
-   counts. Keys and tokens are those of RFCs, of keys.h, of OpenSSL in crates/jwt_vectors/data/key_files.jsonl, and secrets. With the
-   argument `few` no set of 100,000 items is read, for valgrind. */
+/* Tests of the calls for C with handles of keys: which items are kept, the reasons of the others, signed tokens, slips, and want of memory.
+   The last line counts. Keys and tokens are those of RFCs, of keys.h, of OpenSSL in crates/jwt_vectors/data/key_files.jsonl, and
+   secrets, with tokens of Python's hmac. With the argument `few` no set of 100,000 items is read, for valgrind. */
 #include "harness.h"
 #include "keys.h"
 #include "signatures.h"
 #include <pthread.h>
 #include <time.h>
 
-#define ROOM 4096
 #define OCT(members, k) "{\"kty\":\"oct\"," members "\"k\":\"" k "\"}"
-#define SET_OF(keys) "{\"keys\":[" keys "]}"
-#define SECRET "a secret of thirty-two characters"
 #define HS256 "{\"algorithms\":[\"HS256\"]}"
-#define ALL_OPTIONS "{\"algorithms\":[\"HS256\",\"RS256\",\"PS256\",\"ES256\",\"ES384\",\"EdDSA\"]}"
-#define BIT(algorithm) (1u << (algorithm))
-#define HMAC_BITS (BIT(JWT_HS256) | BIT(JWT_HS384) | BIT(JWT_HS512))
-#define RSA_BITS (BIT(JWT_RS256) | BIT(JWT_RS384) | BIT(JWT_RS512) | BIT(JWT_PS256) | BIT(JWT_PS384) | BIT(JWT_PS512))
-/* an RSA key of 17 bits, 65537 with exponent 3, and a point that is not on P-256 */
-#define SMALL_RSA "{\"kty\":\"RSA\",\"kid\":\"rsa\",\"n\":\"AQAB\",\"e\":\"Aw\"}"
-#define OFF_CURVE                                                                                                      \
-    "{\"kty\":\"EC\",\"kid\":\"p256\",\"crv\":\"P-256\",\"x\":\"AAAAAAAAAAAAAAAAAAAAAAAAAAAAAAAAAAAAAAAAAAE\","        \
-    "\"y\":\"AAAAAAAAAAAAAAAAAAAAAAAAAAAAAAAAAAAAAAAAAAE\"}"
-
 /* the points of P256_KEY, P384_KEY and ED_KEY, with the name of a curve */
 #define P256_ON(kty, crv)                                                                                              \
     "{\"kty\":\"" kty "\",\"crv\":\"" crv "\",\"x\":\"cNoCzyOJM488bjKBVHt5l_ZLeJVc0MznCQTwJlkzXa0\","                  \
@@ -33,35 +20,16 @@
 
 /* ---- what calls leave */
 
-struct answer {
-    uint32_t status;
-    size_t len;
-    char room[ROOM];
-};
-
 static struct answer text_in(struct jwt_handle *keys, size_t at, size_t room) {
-    struct answer a;
-    memset(&a, 'x', sizeof a);
+    struct answer a = fresh();
     a.status = jwt_keys_text(keys, at, a.room, room, &a.len);
     return a;
 }
 
 static struct answer thumbprint(struct jwt_handle *keys, size_t at, uint32_t bits) {
-    struct answer a;
-    memset(&a, 'x', sizeof a);
+    struct answer a = fresh();
     a.status = jwt_thumbprint(keys, at, bits, a.room, ROOM, &a.len);
     return a;
-}
-
-static bool gives(const struct answer *a, const char *text) {
-    return a->status == JWT_OK && a->len == strlen(text) && memcmp(a->room, text, a->len) == 0;
-}
-
-/* whether there is no result: the status is this one, the length 0 and the buffer unchanged */
-static bool refuses_by(const struct answer *a, uint32_t status) {
-    for (size_t i = 0; i < ROOM; i++)
-        if (a->room[i] != 'x') return false;
-    return a->status == status && a->len == 0;
 }
 
 /* the status of adding, with another status than JWT_OK only if both numbers are 0, and the number of items and of kept ones in *items and
@@ -89,12 +57,8 @@ static uint32_t info_status(struct jwt_handle *keys, size_t at) {
 /* the status of a token by a verifier of the keys */
 static uint32_t verified(struct jwt_handle *keys, const char *options, const char *token) {
     struct jwt_handle verifier = JWT_NONE;
-    char claims[ROOM];
-    size_t len;
-    uint64_t last;
-    uint32_t test, status = jwt_verifier_new(keys, TEXT(options), 0, JWT_PREPARE_NOTHING, &verifier);
-    if (status == JWT_OK)
-        status = jwt_verifier_decode(&verifier, TEXT(token), 1300819380, claims, sizeof claims, &len, &last, &test);
+    uint32_t status = jwt_verifier_new(keys, TEXT(options), 0, JWT_PREPARE_NOTHING, &verifier);
+    if (status == JWT_OK) status = decode(&verifier, TEXT(token), 1300819380, ROOM).a.status;
     jwt_free(&verifier);
     return status;
 }
@@ -147,7 +111,7 @@ static const struct {
     {"7", JWT_BAD_KEY, 0},
     {"null", JWT_BAD_KEY, 0},
     {"[]", JWT_BAD_KEY, 0},
-    {"\"" SECRET "\"", JWT_BAD_KEY, 0},
+    {"\"" HMAC_SECRET "\"", JWT_BAD_KEY, 0},
     {OCT("\"kid\":7,", "c2VjcmV0"), JWT_BAD_KEY, 0},
     {OCT("\"use\":7,", "c2VjcmV0"), JWT_BAD_KEY, 0},
     {OCT("\"alg\":7,", "c2VjcmV0"), JWT_BAD_KEY, 0},
@@ -450,9 +414,9 @@ static void texts_of_items(void) {
     for (size_t i = 0; i < COUNT(texts); i++) {
         struct answer a = text_in(&keys, i, ROOM);
         if (!texts[i]) {
-            is("the text of an item that is not a key", refuses_by(&a, JWT_BAD_KEY), 1);
+            is("the text of an item that is not a key", status_of(&a), JWT_BAD_KEY);
             a = thumbprint(&keys, i, 256);
-            is("the thumbprint of an item that is not a key", refuses_by(&a, JWT_BAD_KEY), 1);
+            is("the thumbprint of an item that is not a key", status_of(&a), JWT_BAD_KEY);
             continue;
         }
         size_t len = strlen(texts[i]);
@@ -460,15 +424,14 @@ static void texts_of_items(void) {
         a = text_in(&keys, i, len);
         is("a buffer that a text just fits", gives(&a, texts[i]), 1);
         a = text_in(&keys, i, len - 1);
-        is("a buffer too small for a text",
-           a.status == JWT_BUFFER_TOO_SMALL && a.len == len && a.room[0] == 'x' && a.room[len - 2] == 'x', 1);
+        is("a buffer too small for a text", status_of(&a) == JWT_BUFFER_TOO_SMALL && a.len == len, 1);
     }
     static const size_t places[] = {COUNT(texts), COUNT(texts) + 1, SIZE_MAX - 1, JWT_ALL};
     for (size_t i = 0; i < COUNT(places); i++) {
         struct answer a = text_in(&keys, places[i], ROOM);
-        is("the text of a place without an item", refuses_by(&a, JWT_UNKNOWN_NUMBER), 1);
+        is("the text of a place without an item", status_of(&a), JWT_UNKNOWN_NUMBER);
         a = thumbprint(&keys, places[i], 256);
-        is("the thumbprint of a place without an item", refuses_by(&a, JWT_UNKNOWN_NUMBER), 1);
+        is("the thumbprint of a place without an item", status_of(&a), JWT_UNKNOWN_NUMBER);
         if (places[i] != JWT_ALL)
             is("the algorithms of a place without an item", info_status(&keys, places[i]), JWT_UNKNOWN_NUMBER);
     }
@@ -498,7 +461,7 @@ static void thumbprints(void) {
         is("the length that is needed", a.len, strlen(rows[i].text));
         for (size_t k = 0; k < COUNT(others); k++) {
             a = thumbprint(&keys, 0, others[k]);
-            is("another number of bits", refuses_by(&a, JWT_INVALID_ALGORITHM_NAME), 1);
+            is("another number of bits", status_of(&a), JWT_INVALID_ALGORITHM_NAME);
         }
         jwt_free(&keys);
     }
@@ -507,7 +470,7 @@ static void thumbprints(void) {
     static const uint32_t refused[] = {JWT_UNSUPPORTED_ALGORITHM, JWT_UNSUPPORTED_ALGORITHM, JWT_INVALID_KEY_FORMAT};
     for (size_t i = 0; i < COUNT(refused); i++) {
         struct answer a = thumbprint(&set, i, 256);
-        is("no thumbprint", refuses_by(&a, refused[i]), 1);
+        is("no thumbprint", status_of(&a), refused[i]);
     }
     jwt_free(&set);
 }
@@ -675,7 +638,7 @@ static void places(void) {
     is("its items", items == 3 && kept == 2, 1);
     is("a key", add_counted(&keys, JWT_TEXT, TEXT(P256_PEM), &items, &kept), JWT_OK);
     is("one item more", items == 1 && kept == 1, 1);
-    is("a secret", add_counted(&keys, JWT_SECRET, TEXT(SECRET), &items, &kept), JWT_OK);
+    is("a secret", add_counted(&keys, JWT_SECRET, TEXT(HMAC_SECRET), &items, &kept), JWT_OK);
     is("a certificate", add_counted(&keys, JWT_CERTIFICATE, TEXT(P256_CERTIFICATE), &items, &kept), JWT_OK);
     static const uint32_t verifies[] = {0, HMAC_BITS, RSA_BITS, BIT(JWT_ES256), HMAC_BITS, BIT(JWT_ES256)};
     for (size_t i = 0; i < COUNT(verifies); i++) is("a place", info_at(&keys, i).verifies, verifies[i]);
@@ -689,26 +652,122 @@ static void places(void) {
     jwt_free(&keys);
 }
 
+/* ---- signed tokens */
+
+#define BY_HS256_HEADER "{\"alg\":\"HS256\",\"kid\":\"hmac\",\"typ\":\"JWT\"}"
+/* the headers are {"alg":"HS256"}, and one with an object; the payloads have floats, escapes, spaces and a number of 30 digits */
+#define FLOATS                                                                                                         \
+    "eyJhbGciOiJIUzI1NiJ9.eyJleHAiOjkuMCwiYSI6MS4xMCwiYiI6MTg0NDY3NDQwNzM3MDk1NTE2MTYsImMiOi0wLjB9."                   \
+    "8Fh6zIwEWYMNwDmBaJjk7jcGPeJrLMSDXSwsTrKkC-I"
+#define ODD                                                                                                            \
+    "IHsgIngiIDogeyAiYiIgOiAxIH0gLCAiYWxnIiA6ICJIUzI1NiIgfSA."                                                         \
+    "eyJ6IjoiXHUwMDQxXC8iLCJhIjpbIDFFKzIgLCAxMjM0NTY3ODkwMTIzNDU2Nzg5MDEyMzQ1Njc4OTAgXX0K.1_"                          \
+    "YjBLWbQrub5kFtH41HaXjCeXhTfCIiEwPX0qFjjaU"
+
+static struct answer sign(struct jwt_handle *keys, const char *header, const char *payload, size_t room) {
+    struct answer a = fresh();
+    a.status = jwt_sign(keys, TEXT(header), TEXT(payload), a.room, room, &a.len);
+    return a;
+}
+
+/* each token is the RFC's or Python's, byte for byte, and a verifier returns its payload */
+static void signed_tokens(void) {
+    static const struct {
+        const char *key;
+        uint32_t source;
+        const char *header, *payload, *token;
+    } rows[] = {
+        {A1_KEY, JWT_TEXT, A1_HEADER, A1_PAYLOAD, A1_TOKEN},
+        {HMAC_KEY, JWT_TEXT, BY_HS256_HEADER, CLAIMS, BY_HS256},
+        {HMAC_SECRET, JWT_SECRET, BY_HS256_HEADER, CLAIMS, BY_HS256},
+        {HMAC_KEY, JWT_TEXT, "{\"alg\":\"HS384\",\"kid\":\"hmac\",\"typ\":\"JWT\"}", CLAIMS, BY_HS384},
+        {HMAC_KEY, JWT_TEXT, "{\"alg\":\"HS512\",\"kid\":\"hmac\",\"typ\":\"JWT\"}", CLAIMS, BY_HS512},
+        {"secret", JWT_SECRET, "{\"alg\":\"HS256\"}", "{\"exp\":9.0,\"a\":1.10,\"b\":18446744073709551616,\"c\":-0.0}",
+         FLOATS},
+        {"secret", JWT_SECRET, " { \"x\" : { \"b\" : 1 } , \"alg\" : \"HS256\" } ",
+         "{\"z\":\"\\u0041\\/\",\"a\":[ 1E+2 , 123456789012345678901234567890 ]}\n", ODD},
+        /* an alg of the key, and a kid that is not put into the header */
+        {OCT("\"alg\":\"HS256\",\"kid\":\"k\",", "c2VjcmV0"), JWT_TEXT, "{\"alg\":\"HS256\"}",
+         "{\"exp\":9.0,\"a\":1.10,\"b\":18446744073709551616,\"c\":-0.0}", FLOATS},
+    };
+    for (size_t i = 0; i < COUNT(rows); i++) {
+        struct jwt_handle keys = JWT_NONE, verifier = JWT_NONE;
+        size_t len = strlen(rows[i].token);
+        add(&keys, rows[i].source, rows[i].key);
+        struct answer a = sign(&keys, rows[i].header, rows[i].payload, len);
+        is(rows[i].token, gives(&a, rows[i].token), 1);
+        a = sign(&keys, rows[i].header, rows[i].payload, len - 1);
+        is("a buffer too small for a token", status_of(&a) == JWT_BUFFER_TOO_SMALL && a.len == len, 1);
+        jwt_verifier_new(
+            &keys,
+            TEXT("{\"algorithms\":[\"HS256\",\"HS384\",\"HS512\"],\"validate_exp\":false,\"required_spec_claims\":[]}"),
+            0, 0, &verifier);
+        struct judged read = decode(&verifier, rows[i].token, len, 0, ROOM);
+        is("it is read back", gives(&read.a, rows[i].payload) && read.said.as_signed, 1);
+        jwt_free(&keys), jwt_free(&verifier);
+    }
+}
+
+/* of several statuses the first */
+static void refused_signing(void) {
+    static const char header[] = "{\"alg\":\"HS256\"}", twice[] = "{\"alg\":\"HS256\",\"alg\":\"HS256\"}";
+    static const struct {
+        const char *texts[2], *header, *payload;
+        uint32_t status;
+    } rows[] = {
+        {{NULL}, "{}", "[]", JWT_NO_KEYS},
+        {{HMAC_KEY, HMAC_KEY}, "{}", "[]", JWT_UNFIT_KEY},
+        {{HMAC_KEY, SET_OF("")}, header, "{}", JWT_UNFIT_KEY},
+        {{SET_OF(HMAC_KEY)}, header, "{}", JWT_UNFIT_KEY},
+        {{SET_OF("")}, header, "{}", JWT_UNFIT_KEY},
+        {{RSA_KEY}, "{}", "[]", JWT_BAD_HEADER},
+        {{HMAC_KEY}, "", "{}", JWT_BAD_HEADER},
+        {{HMAC_KEY}, "{\"alg\":\"none\"}", "{}", JWT_BAD_HEADER},
+        {{HMAC_KEY}, "{\"alg\":\"HS256\",\"typ\":1}", "{}", JWT_BAD_HEADER},
+        {{HMAC_KEY}, "{\"alg\":\"HS256\",\"x\":1.0}", "{}", JWT_BAD_HEADER},
+        {{HMAC_KEY}, twice, "{}", JWT_BAD_HEADER},
+        {{HMAC_KEY}, "{\"alg\":\"HS256\",\"x\":{\"a\":1,\"\\u0061\":1}}", "{}", JWT_BAD_HEADER},
+        {{RSA_KEY}, header, "[]", JWT_BAD_CLAIMS},
+        {{HMAC_KEY}, header, "", JWT_BAD_CLAIMS},
+        {{HMAC_KEY}, header, "{\"a\":1,\"a\":1}", JWT_BAD_CLAIMS},
+        {{HMAC_KEY}, header, "{\"b\":[{\"a\":1,\"a\":2}]}", JWT_BAD_CLAIMS},
+        {{RSA_KEY}, header, "{}", JWT_INVALID_KEY_FORMAT},
+        {{RSA_KEY}, "{\"alg\":\"RS256\"}", "{}", JWT_INVALID_KEY_FORMAT},
+        {{A2_PEM}, "{\"alg\":\"RS256\"}", "{}", JWT_INVALID_KEY_FORMAT},
+        {{P256_KEY}, "{\"alg\":\"ES256\"}", "{}", JWT_INVALID_KEY_FORMAT},
+        {{P384_KEY}, "{\"alg\":\"ES384\"}", "{}", JWT_INVALID_KEY_FORMAT},
+        {{ED_KEY}, "{\"alg\":\"EdDSA\"}", "{}", JWT_INVALID_KEY_FORMAT},
+        {{HMAC_KEY}, "{\"alg\":\"RS256\"}", "{}", JWT_INVALID_ALGORITHM},
+        {{HMAC_KEY}, "{\"alg\":\"ES256\"}", "{}", JWT_INVALID_ALGORITHM},
+        {{OCT("\"alg\":\"HS384\",", "c2VjcmV0")}, header, "{}", JWT_INVALID_ALGORITHM},
+    };
+    for (size_t i = 0; i < COUNT(rows); i++) {
+        struct jwt_handle keys = JWT_NONE;
+        for (size_t k = 0; k < 2 && rows[i].texts[k]; k++) is("added", add(&keys, JWT_TEXT, rows[i].texts[k]), JWT_OK);
+        struct answer a = sign(&keys, rows[i].header, rows[i].payload, ROOM);
+        is(rows[i].header, status_of(&a), rows[i].status);
+        jwt_free(&keys);
+    }
+    struct jwt_handle keys = JWT_NONE;
+    add(&keys, JWT_SECRET, HMAC_SECRET);
+    is("a header by a null pointer", jwt_sign(&keys, NULL, 0, NULL, 0, NULL, 0, &(size_t){0}), JWT_BAD_HEADER);
+    jwt_free(&keys);
+}
+
 /* ---- slips */
 
 static void empty_handles(void) {
     struct jwt_handle none = JWT_NONE, other = JWT_NONE;
-    char room[16];
-    size_t len = 9;
-    uint64_t last = 9;
-    uint32_t test = 9;
     is("the algorithms of no keys", info_status(&none, 0), JWT_NO_KEYS);
     is("all algorithms of no keys", info_status(&none, JWT_ALL), JWT_NO_KEYS);
     struct answer a = text_in(&none, 0, ROOM);
-    is("the text of no keys", refuses_by(&a, JWT_NO_KEYS), 1);
+    is("the text of no keys", status_of(&a), JWT_NO_KEYS);
     a = thumbprint(&none, 0, 256);
-    is("the thumbprint of no keys", refuses_by(&a, JWT_NO_KEYS), 1);
+    is("the thumbprint of no keys", status_of(&a), JWT_NO_KEYS);
     is("a verifier of no keys", jwt_verifier_new(&none, TEXT(HS256), 0, 0, &other), JWT_NO_KEYS);
     is("a verifier of no keys before its options", jwt_verifier_new(&none, TEXT("{"), 0, 0, &other), JWT_NO_KEYS);
     is("nothing is made", other.at == NULL, 1);
-    is("a token by nothing", jwt_verifier_decode(&none, TEXT(BY_HS256), 0, room, sizeof room, &len, &last, &test),
-       JWT_NO_VERIFIER);
-    is("nothing is left", len == 0 && last == 0 && test == 0, 1);
+    is("a token by nothing", decode(&none, TEXT(BY_HS256), 0, ROOM).a.status, JWT_NO_VERIFIER);
     is("a share of nothing", jwt_share(&none, &other), JWT_NO_VERIFIER);
     is("nothing is shared", other.at == NULL, 1);
     jwt_free(&none);
@@ -718,24 +777,21 @@ static void empty_handles(void) {
 
 static void wrong_handles(void) {
     struct jwt_handle keys = JWT_NONE, verifier = JWT_NONE, other = JWT_NONE;
-    char room[16];
-    size_t items, kept, len = 9;
-    uint64_t last = 9;
-    uint32_t test = 9;
+    size_t items, kept;
     add(&keys, JWT_TEXT, HMAC_KEY);
     is("made", jwt_verifier_new(&keys, TEXT(HS256), 0, 0, &verifier), JWT_OK);
     struct state before = state_of(&keys);
     void *at = verifier.at;
-    is("a token by keys", jwt_verifier_decode(&keys, TEXT(BY_HS256), 0, room, sizeof room, &len, &last, &test),
-       JWT_NO_VERIFIER);
-    is("nothing is left", len == 0 && last == 0 && test == 0, 1);
+    is("a token by keys", decode(&keys, TEXT(BY_HS256), 0, ROOM).a.status, JWT_NO_VERIFIER);
     is("keys to a verifier", add_counted(&verifier, JWT_TEXT, TEXT(HMAC_KEY), &items, &kept), JWT_NO_KEYS);
     is("the algorithms of a verifier", info_status(&verifier, 0), JWT_NO_KEYS);
     is("all algorithms of a verifier", info_status(&verifier, JWT_ALL), JWT_NO_KEYS);
     struct answer a = text_in(&verifier, 0, ROOM);
-    is("the text of a verifier", refuses_by(&a, JWT_NO_KEYS), 1);
+    is("the text of a verifier", status_of(&a), JWT_NO_KEYS);
     a = thumbprint(&verifier, 0, 256);
-    is("the thumbprint of a verifier", refuses_by(&a, JWT_NO_KEYS), 1);
+    is("the thumbprint of a verifier", status_of(&a), JWT_NO_KEYS);
+    a = sign(&verifier, BY_HS256_HEADER, CLAIMS, ROOM);
+    is("a token that a verifier signs", status_of(&a), JWT_NO_KEYS);
     is("a verifier of a verifier", jwt_verifier_new(&verifier, TEXT(HS256), 0, 0, &other), JWT_NO_KEYS);
     is("nothing is made", other.at == NULL, 1);
     /* what is to be filled holds something */
@@ -747,8 +803,7 @@ static void wrong_handles(void) {
     is("a share in the place of a verifier", jwt_share(&keys, &verifier), JWT_HANDLE_IN_USE);
     is("the keys are unchanged", is_unchanged(&keys, &before), 1);
     is("the verifier is unchanged", verifier.at == at, 1);
-    char claims[ROOM];
-    is("it verifies", jwt_verifier_decode(&verifier, TEXT(BY_HS256), 0, claims, ROOM, &len, &last, &test), JWT_OK);
+    is("it verifies", decode(&verifier, TEXT(BY_HS256), 0, ROOM).a.status, JWT_OK);
     jwt_free(&keys), jwt_free(&verifier);
     is("both are freed", keys.at == NULL && verifier.at == NULL, 1);
 }
@@ -885,7 +940,7 @@ static uint32_t adds_bytes(struct jwt_handle *keys) {
     return jwt_keys_add(keys, JWT_TEXT, der, der_of(A2_PEM, der), &items, &kept);
 }
 static uint32_t adds_a_secret(struct jwt_handle *keys) {
-    return add(keys, JWT_SECRET, SECRET);
+    return add(keys, JWT_SECRET, HMAC_SECRET);
 }
 static uint32_t adds_a_certificate(struct jwt_handle *keys) {
     return add(keys, JWT_CERTIFICATE, P256_CERTIFICATE);
@@ -943,11 +998,31 @@ static long looking_refused_in_turn(uint32_t bits) {
         struct answer a = bits ? thumbprint(&held, 1, bits) : text_in(&held, 1, ROOM);
         bool was_refused = requests >= number;
         refused_one = 0;
-        if (was_refused ? !refuses_by(&a, JWT_OUT_OF_MEMORY) : a.status != JWT_OK) return -1;
+        if (was_refused ? status_of(&a) != JWT_OUT_OF_MEMORY : a.status != JWT_OK) return -1;
         if (!is_unchanged(&held, &before)) return -1;
         if (!was_refused) return number - 1;
     }
     return -1;
+}
+
+/* how often signing was out of memory; -1 for another result than the token */
+static long signing_refused_in_turn(void) {
+    struct jwt_handle keys = JWT_NONE;
+    long seen = 0, number = 0;
+    bool was_refused = true;
+    add(&keys, JWT_SECRET, HMAC_SECRET);
+    while (was_refused && seen >= 0) {
+        requests = 0, refused_one = ++number;
+        struct answer a = sign(&keys, BY_HS256_HEADER, CLAIMS, ROOM);
+        was_refused = requests >= number;
+        refused_one = 0;
+        if (was_refused && status_of(&a) == JWT_OUT_OF_MEMORY)
+            seen++;
+        else if (!gives(&a, BY_HS256))
+            seen = -1;
+    }
+    jwt_free(&keys);
+    return seen;
 }
 
 static void refused_memory(void) {
@@ -972,6 +1047,7 @@ static void refused_memory(void) {
     is("a verifier", filling_refused_in_turn(makes) > 5, 1);
     is("a text", looking_refused_in_turn(0) > 0, 1);
     is("a thumbprint", looking_refused_in_turn(256) > 0, 1);
+    is("a token", signing_refused_in_turn() > 2, 1);
     jwt_free(&held);
     /* to look at the algorithms takes no memory */
     add(&held, JWT_TEXT, ALL_KEYS);
@@ -1035,6 +1111,8 @@ int main(int argc, char **argv) {
     sets_alone();
     bits_of_all();
     places();
+    signed_tokens();
+    refused_signing();
     empty_handles();
     wrong_handles();
     shares_of_keys();

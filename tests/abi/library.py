@@ -5,11 +5,14 @@ import os
 
 TOP = os.path.dirname(os.path.dirname(os.path.dirname(os.path.abspath(__file__))))
 DATA = os.path.join(TOP, "crates", "jwt_vectors", "data")
-OK = 0
+OK, MISSING_CLAIM, MALFORMED_CLAIM, BUFFER_TOO_SMALL = 0, 59, 79, 100
+CLAIM_IAT = 2**32 - 1
 TEXT, SECRET, CERTIFICATE, SET = 1, 2, 3, 4
-OF_STATUS = 1
+PAYLOAD = 2
+OF_STATUS, OF_TEST = 1, 2
 # the names in rows of the kinds and statuses whose texts are others
 NAMES = {"Base64 error": "Base64", "JSON error": "Json", "UTF-8 error": "Utf8", "Invalid key": "BadKey", "No key fits the algorithms": "NoUsableKey"}
+NAMES |= {"Missing required claim": "MissingRequiredClaim", "Invalid format for claim": "InvalidClaimFormat"}
 BYTES = [ctypes.c_char_p, ctypes.c_size_t]
 BUFFER = [ctypes.c_char_p, ctypes.c_size_t, ctypes.POINTER(ctypes.c_size_t)]
 
@@ -32,14 +35,27 @@ class Info(ctypes.Structure):
     _fields_ = [("status", ctypes.c_uint32), ("verifies", ctypes.c_uint32), ("signs", ctypes.c_uint32)]
 
 
+class Verdict(ctypes.Structure):
+    """What a verifier says of a token."""
+
+    _fields_ = [("last", ctypes.c_uint64), ("len", ctypes.c_size_t), ("verifier", ctypes.c_size_t)]
+    _fields_ += [(name, ctypes.c_uint32) for name in ("algorithm", "test", "claim", "has_kid", "as_signed")]
+
+    def values(self):
+        return [getattr(self, name) for name, _ in self._fields_]
+
+
 def declared(library):
     """Returns the library, of which each call that is used here has its types."""
-    handle, size = ctypes.POINTER(Handle), ctypes.POINTER(ctypes.c_size_t)
+    handle, size, number = ctypes.POINTER(Handle), ctypes.POINTER(ctypes.c_size_t), ctypes.POINTER(ctypes.c_uint32)
     library.jwt_keys_add.argtypes = [handle, ctypes.c_uint32, *BYTES, size, size]
     library.jwt_keys_info.argtypes = [handle, ctypes.c_size_t, ctypes.POINTER(Info)]
     library.jwt_keys_text.argtypes = [handle, ctypes.c_size_t, *BUFFER]
     library.jwt_verifier_new.argtypes = [handle, *BYTES, ctypes.c_size_t, ctypes.c_size_t, handle]
-    library.jwt_verifier_decode.argtypes = [handle, *BYTES, ctypes.c_uint64, *BUFFER, ctypes.POINTER(ctypes.c_uint64), ctypes.POINTER(ctypes.c_uint32)]
+    library.jwt_verifier_decode.argtypes = [handle, *BYTES, ctypes.c_uint64, *BYTES, ctypes.POINTER(Verdict)]
+    library.jwt_decode_verdict.argtypes = [*BYTES, ctypes.c_uint32, *BYTES, *BYTES, ctypes.c_bool, *BYTES, ctypes.c_uint64, number, *BUFFER]
+    library.jwt_check_claims.argtypes = [*BYTES, *BYTES, ctypes.c_uint64, number]
+    library.jwt_unverified.argtypes = [*BYTES, ctypes.c_uint32, *BUFFER]
     library.jwt_free.argtypes, library.jwt_free.restype = [handle], None
     library.jwt_text.argtypes = [ctypes.c_uint32, ctypes.c_uint32, *BUFFER]
     return library
@@ -55,10 +71,27 @@ def left(call):
     return status, buffer.raw[: length.value]
 
 
+def text(of, number):
+    """Returns a text of a table of jwt_text."""
+    return left(lambda *buffer: LIBRARY.jwt_text(of, number, *buffer))[1].decode()
+
+
 def name(status):
     """Returns the name that rows have of a status."""
-    text = left(lambda *buffer: LIBRARY.jwt_text(OF_STATUS, status, *buffer))[1].decode()
-    return NAMES.get(text, text)
+    found = text(OF_STATUS, status)
+    return NAMES.get(found, found)
+
+
+def error(status, claim, options):
+    """Returns the error that rows have of a status, with the name of its claim, or None if there is no error. The place of a claim selects the
+    name in the options."""
+    if status == OK:
+        return None
+    kind, _, named = text(OF_STATUS, status).partition(": ")
+    names = options.get({MISSING_CLAIM: "required", MALFORMED_CLAIM: "texts"}.get(status)) or []
+    if claim:
+        named = "iat" if claim == CLAIM_IAT else (names[claim - 1 : claim] or [f"place {claim}"])[0]
+    return f"{NAMES.get(kind, kind)}({named})" if named or claim else name(status)
 
 
 def add(keys, source, data):
@@ -81,19 +114,24 @@ def key_text(keys, at):
     return json.loads(text) if status == OK else name(status)
 
 
+def decoded(verifier, token, now, room=1 << 16):
+    """Returns the status, the claims and the verdict that a verifier leaves of a token."""
+    buffer, said = ctypes.create_string_buffer(room), Verdict(*[99] * len(Verdict._fields_))
+    status = LIBRARY.jwt_verifier_decode(verifier, token, len(token), now, buffer, room, said)
+    return status, buffer.raw[: said.len], said
+
+
 def verified(source, data, options, token, now):
     """Returns the claims of a token, or the name of the first refusal; whether a verifier is made; and the last time at which the token is
     accepted."""
-    last, test = ctypes.c_uint64(), ctypes.c_uint32()
     with Handle() as keys, Handle() as verifier:
         status, _, _ = add(keys, source, data)
         if status == OK:
             status = LIBRARY.jwt_verifier_new(keys, options, len(options), 1 << 30, 0, verifier)
         if status != OK:
             return {"err": name(status)}, False, 0
-        arguments = (token, len(token), now)
-        status, claims = left(lambda *buffer: LIBRARY.jwt_verifier_decode(verifier, *arguments, *buffer, ctypes.byref(last), ctypes.byref(test)))
-    return {"ok": json.loads(claims)} if status == OK else {"err": name(status)}, True, last.value
+        status, claims, said = decoded(verifier, token, now)
+    return {"ok": json.loads(claims)} if status == OK else {"err": name(status)}, True, said.last
 
 
 def rows(path):

@@ -1,16 +1,14 @@
-/* Tests which branches and addresses of jwt_encode_hmac, jwt_verify_signature_hmac and jwt_verifier_decode depend on the bytes of a secret.
-   valgrind runs the program; to it the secret is undefined, so that it counts each conditional jump and each address that depends on the
-   secret.
+/* Tests which branches and addresses of jwt_verifier_check and jwt_verifier_decode depend on the bytes of a secret. valgrind runs the program;
+   to it the secret is undefined, so that it counts each conditional jump and each address that depends on the secret.
 
-   Verification depends on the secret by its result alone. jwt_verify_signature_hmac has at most two such jumps, the result and the choice of
-   the status, and if it refuses the signature, at most three. The text of a signature is public: jwt_encode_hmac reads a table for each of
-   its characters. jwt_verifier_decode has at most three such jumps if it accepts the token, whatever the length of the secret: the result,
-   the choice of the status, and whether the key is the prepared one, which it always is. If it refuses the token, it has at most five, since
-   it also chooses the number of the failed test.
+   Verification depends on the secret by its result alone. jwt_verifier_check has at most two such jumps, the result and the choice of the
+   status, and if it refuses the signature, at most three. jwt_verifier_decode has at most three if it accepts the token, whatever the length
+   of the secret: the result, the choice of the status, and whether the key is the prepared one, which it always is. If it refuses the token,
+   it has at most five, since it also chooses the number of the failed test.
 
-   jwt_keys_add and jwt_verifier_new read the secret by base64 and look for key texts: their branches and addresses depend on it, and are not
-   tested. So a verifier is made first, and then what it keeps of the secret is made undefined: the bytes of its memory that differ from those
-   of verifiers of other secrets with the same length, and are not in a pointer. A byte that is the same for all these secrets is not seen. */
+   jwt_keys_add, jwt_verifier_new and jwt_sign read the secret by base64, and the first two look for key texts: their branches and addresses
+   depend on it, and are not tested. So a handle is made first, and then what it keeps of the secret is made undefined: the bytes of its memory that differ from those
+   of handles of other secrets with the same length, and are not in a pointer. A byte that is the same for all these secrets is not seen. */
 #include <jwtproved.h>
 #include <stdio.h>
 #include <stdlib.h>
@@ -20,20 +18,18 @@
 struct algorithm {
     uint32_t number;
     const char *header, *options;
-    unsigned signature;
 };
 
 static const struct algorithm ALGORITHMS[] = {
-    {JWT_HS256, "{\"alg\":\"HS256\"}", "{\"algorithms\":[\"HS256\"],\"required_spec_claims\":[]}", 43},
-    {JWT_HS384, "{\"alg\":\"HS384\"}", "{\"algorithms\":[\"HS384\"],\"required_spec_claims\":[]}", 64},
-    {JWT_HS512, "{\"alg\":\"HS512\"}", "{\"algorithms\":[\"HS512\"],\"required_spec_claims\":[]}", 86},
+    {JWT_HS256, "{\"alg\":\"HS256\"}", "{\"algorithms\":[\"HS256\"],\"required_spec_claims\":[]}"},
+    {JWT_HS384, "{\"alg\":\"HS384\"}", "{\"algorithms\":[\"HS384\"],\"required_spec_claims\":[]}"},
+    {JWT_HS512, "{\"alg\":\"HS512\"}", "{\"algorithms\":[\"HS512\"],\"required_spec_claims\":[]}"},
 };
 static const char CLAIMS[] = "{\"sub\":\"ada\"}";
-/* The most jumps for a signature that jwt_verify_signature_hmac accepts or refuses, and for a token that jwt_verifier_decode accepts or
-   refuses. */
+/* The most jumps for a signature that jwt_verifier_check accepts or refuses, and for a token that jwt_verifier_decode accepts or refuses. */
 enum { MOST_OF_ACCEPTED = 2, MOST_OF_REFUSED = 3, MOST_BY_VERIFIER = 3, MOST_OF_REFUSED_BY_VERIFIER = 5 };
 
-/* ---- the memory of a verifier */
+/* ---- the memory of a handle */
 
 enum { MOST_BLOCKS = 400, OTHERS = 4 };
 struct blocks {
@@ -90,7 +86,7 @@ static bool is_pointer(const struct blocks *blocks, const uint8_t *word) {
     return false;
 }
 
-/* Makes the bytes undefined that differ from those of the other verifier. Returns their number, or 0 if the blocks are not alike. */
+/* Makes the bytes undefined that differ from those of the other handle. Returns their number, or 0 if the blocks are not alike. */
 static size_t hide(const struct blocks *own, const struct blocks *other) {
     size_t hidden = 0;
     if (own->count != other->count || own->count == MOST_BLOCKS) return 0;
@@ -123,22 +119,16 @@ static void note(const char *what, const char *of, size_t secret_len, int is_wel
     if (!is_well) printf("FAILED: %s with %s and a secret of %zu bytes: %u\n", what, of, secret_len, found);
 }
 
-static uint32_t encode(const struct algorithm *by, const uint8_t *secret, size_t secret_len, char *token, size_t *len) {
-    return jwt_encode_hmac(by->header, strlen(by->header), CLAIMS, strlen(CLAIMS), secret, secret_len, token, 1000,
-                           len);
-}
-
-/* Returns how many jumps and addresses of a verification of the token's signature depend on the secret. */
-static unsigned verified(const struct algorithm *by, const uint8_t *secret, size_t secret_len, const char *token,
-                         size_t len, uint32_t *status) {
+/* Returns how many jumps and addresses of jwt_verifier_check of the token's signature depend on the secret. */
+static unsigned checked_by(const struct algorithm *by, struct jwt_handle *verifier, const char *token, size_t len,
+                           uint32_t *status) {
     uint8_t signature[64];
     uint32_t algorithm;
     size_t message_len, signature_len;
     *status = jwt_signed_part(token, len, &algorithm, &message_len, signature, sizeof signature, &signature_len);
     if (*status != JWT_OK) return 0;
     unsigned before = VALGRIND_COUNT_ERRORS;
-    *status = jwt_verify_signature_hmac((const uint8_t *)token, message_len, signature, signature_len, secret,
-                                        secret_len, by->number);
+    *status = jwt_verifier_check(verifier, by->number, (const uint8_t *)token, message_len, signature, signature_len);
     unsigned after = VALGRIND_COUNT_ERRORS;
     (void)VALGRIND_MAKE_MEM_DEFINED(status, sizeof *status);
     return after - before;
@@ -147,19 +137,17 @@ static unsigned verified(const struct algorithm *by, const uint8_t *secret, size
 /* Returns how many jumps and addresses of jwt_verifier_decode depend on the secret. */
 static unsigned verified_by(struct jwt_handle *verifier, const char *token, size_t len, uint32_t *status) {
     char claims[1000];
-    size_t claims_len;
-    uint64_t last;
-    uint32_t test;
+    struct jwt_verdict said;
     unsigned before = VALGRIND_COUNT_ERRORS;
-    *status = jwt_verifier_decode(verifier, token, len, 0, claims, sizeof claims, &claims_len, &last, &test);
+    *status = jwt_verifier_decode(verifier, token, len, 0, claims, sizeof claims, &said);
     unsigned after = VALGRIND_COUNT_ERRORS;
     (void)VALGRIND_MAKE_MEM_DEFINED(status, sizeof *status);
     return after - before;
 }
 
-/* Makes a verifier of as many bytes of this value as a secret, and notes its memory. */
-static uint32_t make(const struct algorithm *by, uint8_t byte, size_t secret_len, size_t max_prepared,
-                     struct jwt_handle *verifier, struct blocks *blocks) {
+/* Makes a verifier of as many bytes of this value as a secret, with a limit of prepared keys, and notes its memory. */
+static uint32_t make(const struct algorithm *by, uint8_t byte, size_t secret_len, size_t max_prepared, struct jwt_handle *verifier,
+                     struct blocks *blocks) {
     struct jwt_handle keys = JWT_NONE;
     uint8_t *secret = malloc(secret_len);
     size_t items, kept;
@@ -173,56 +161,54 @@ static uint32_t make(const struct algorithm *by, uint8_t byte, size_t secret_len
     return status;
 }
 
-/* Makes a verifier of the secret, hides what it keeps of it, and verifies a token and a forged one. */
-static void try_verifier(const struct algorithm *by, size_t secret_len, size_t max_prepared, const char *token,
-                         const char *forged, size_t len) {
+/* Makes a verifier of the secret, and hides what it keeps of it. */
+static void make_hidden(const struct algorithm *by, size_t secret_len, size_t max_prepared, struct jwt_handle *verifier) {
     static struct blocks own, other;
-    struct jwt_handle verifier = JWT_NONE, others[OTHERS] = {JWT_NONE};
-    uint32_t status = make(by, 'x', secret_len, max_prepared, &verifier, &own);
+    struct jwt_handle others[OTHERS] = {JWT_NONE};
+    uint32_t status = make(by, 'x', secret_len, max_prepared, verifier, &own);
     size_t hidden = 0;
     for (int i = 0; i < OTHERS && status == JWT_OK; i++) {
         status = make(by, (uint8_t)(0x5a + 0x29 * i), secret_len, max_prepared, &others[i], &other);
         if (status == JWT_OK) hidden += hide(&own, &other);
     }
-    note("the secret of a verifier", by->header, secret_len, status == JWT_OK && hidden >= secret_len,
-         (unsigned)hidden);
+    note("the secret of a verifier", by->header, secret_len, status == JWT_OK && hidden >= secret_len, (unsigned)hidden);
+    for (int i = 0; i < OTHERS; i++) jwt_free(&others[i]);
+}
+
+/* Verifies a token and a forged one. */
+static void try_verifier(const struct algorithm *by, size_t secret_len, size_t max_prepared, const char *token,
+                         const char *forged, size_t len) {
+    struct jwt_handle verifier = JWT_NONE;
+    uint32_t status;
+    make_hidden(by, secret_len, max_prepared, &verifier);
     unsigned found = verified_by(&verifier, token, len, &status);
     note("a token that a verifier accepts", by->header, secret_len,
          status == JWT_OK && found >= 1 && found <= MOST_BY_VERIFIER, found);
     found = verified_by(&verifier, forged, len, &status);
     note("a token that a verifier refuses", by->header, secret_len,
          status == JWT_INVALID_SIGNATURE && found >= 1 && found <= MOST_OF_REFUSED_BY_VERIFIER, found);
+    found = checked_by(by, &verifier, token, len, &status);
+    note("an accepted signature", by->header, secret_len, status == JWT_OK && found >= 1 && found <= MOST_OF_ACCEPTED,
+         found);
+    found = checked_by(by, &verifier, forged, len, &status);
+    note("a forged signature", by->header, secret_len,
+         status == JWT_INVALID_SIGNATURE && found >= 1 && found <= MOST_OF_REFUSED, found);
     jwt_free(&verifier);
-    for (int i = 0; i < OTHERS; i++) jwt_free(&others[i]);
 }
 
 static void try_secret(const struct algorithm *by, size_t secret_len) {
-    uint8_t *secret = malloc(secret_len + 1);
-    char token[1000], forged[1000];
-    size_t len, issued_len;
-    uint32_t status;
+    struct jwt_handle keys = JWT_NONE;
+    char token[1000], forged[1000], secret[300];
+    size_t items, kept, len = 0;
     memset(secret, 'x', secret_len);
-    int is_well = encode(by, secret, secret_len, token, &len) == JWT_OK;
-    unsigned one = secret_len > 0;
-    (void)VALGRIND_MAKE_MEM_UNDEFINED(secret, secret_len);
-    unsigned found = verified(by, secret, secret_len, token, len, &status);
-    note("an accepted signature", by->header, secret_len,
-         is_well && status == JWT_OK && found >= one && found <= one * MOST_OF_ACCEPTED, found);
+    uint32_t status = jwt_keys_add(&keys, JWT_SECRET, (const uint8_t *)secret, secret_len, &items, &kept);
+    if (status == JWT_OK) status = jwt_sign(&keys, by->header, strlen(by->header), CLAIMS, strlen(CLAIMS), token, sizeof token, &len);
+    note("an issued token", by->header, secret_len, status == JWT_OK, status);
+    jwt_free(&keys);
     memcpy(forged, token, len);
     forged[len - 10] = forged[len - 10] == 'A' ? 'B' : 'A';
-    found = verified(by, secret, secret_len, forged, len, &status);
-    note("a forged signature", by->header, secret_len,
-         status == JWT_INVALID_SIGNATURE && found >= one && found <= one * MOST_OF_REFUSED, found);
-    if (secret_len > 0) {
-        try_verifier(by, secret_len, 0, token, forged, len);
-        try_verifier(by, secret_len, JWT_PREPARE_NOTHING, token, forged, len);
-    }
-    unsigned before = VALGRIND_COUNT_ERRORS;
-    status = encode(by, secret, secret_len, token, &issued_len);
-    found = VALGRIND_COUNT_ERRORS - before;
-    note("an issued token", by->header, secret_len,
-         status == JWT_OK && issued_len == len && found == one * by->signature, found);
-    free(secret);
+    try_verifier(by, secret_len, 0, token, forged, len);
+    try_verifier(by, secret_len, JWT_PREPARE_NOTHING, token, forged, len);
 }
 
 /* Compares as is_same must not: it stops at the first difference. */
@@ -243,7 +229,7 @@ static void try_early_stop(void) {
 }
 
 int main(void) {
-    static const size_t LENGTHS[] = {0, 1, 16, 31, 32, 33, 63, 64, 65, 127, 128, 129, 200, 300};
+    static const size_t LENGTHS[] = {1, 16, 31, 32, 33, 63, 64, 65, 127, 128, 129, 200, 300};
     if (!RUNNING_ON_VALGRIND) {
         fprintf(stderr, "secret_paths: run it by valgrind\n");
         return 2;

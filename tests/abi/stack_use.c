@@ -1,4 +1,4 @@
-/* Tests how much stack a call needs that reads keys, makes a verifier or verifies a token. The call runs in a thread whose stack is painted before;
+/* Tests how much stack a call needs that reads keys, makes a verifier, verifies a token or signs one. The call runs in a thread whose stack is painted before;
    the bytes with another value afterwards were used. The tables of multiples of curve points are on the stack, and the JSON reader
    needs about 600 bytes for each level of nesting. */
 #include "keys.h"
@@ -11,13 +11,14 @@
 
 enum { STACK = 1 << 20, PAINT = 0xa5 };
 /* The most bytes of stack that a call needs, for a short token without nesting, and for a token that nests as deep as JSON may. */
-enum { MOST = 36 << 10, MOST_OF_NESTED = 112 << 10 };
+enum { MOST = 40 << 10, MOST_OF_NESTED = 112 << 10 };
 /* The levels of arrays in a member. With the object around them there are 127, the most that is read. */
 enum { LEVELS = 126 };
 static const uint64_t EXPIRED = 2532525000;
 static const char BY_HMAC[] = "{\"algorithms\":[\"HS256\"]}";
 
-enum way { NOTHING, READS_KEYS, MAKES_VERIFIER, BY_VERIFIER };
+enum way { NOTHING, READS_KEYS, MAKES_VERIFIER, BY_VERIFIER, SIGNS };
+/* to sign, the texts are a header and a payload */
 struct call {
     enum way way;
     const char *token, *options;
@@ -26,20 +27,23 @@ struct call {
 
 static uint32_t status;
 static struct jwt_handle keys = JWT_NONE, verifier = JWT_NONE;
+static char nested[2048];
 
 static void *make(void *given) {
     const struct call *call = given;
     static char claims[288];
-    size_t len, items, kept;
-    uint64_t last;
-    uint32_t failed_test;
+    size_t items, kept, len;
+    struct jwt_verdict said;
     if (call->way == READS_KEYS)
         status = jwt_keys_add(&keys, JWT_TEXT, (const uint8_t *)ALL_KEYS, strlen(ALL_KEYS), &items, &kept);
     else if (call->way == MAKES_VERIFIER)
         status = jwt_verifier_new(&keys, call->options, strlen(call->options), 0, 0, &verifier);
     else if (call->way == BY_VERIFIER)
-        status = jwt_verifier_decode(&verifier, call->token, strlen(call->token), call->now, claims, sizeof claims,
-                                     &len, &last, &failed_test);
+        status =
+            jwt_verifier_decode(&verifier, call->token, strlen(call->token), call->now, claims, sizeof claims, &said);
+    else if (call->way == SIGNS)
+        status = jwt_sign(&keys, call->token, strlen(call->token), call->options, strlen(call->options), nested,
+                          sizeof nested - 1, &len);
     return NULL;
 }
 
@@ -67,7 +71,7 @@ static unsigned passed, failed;
 
 /* Tests the status of a call, and its stack beyond that of a thread that makes no call. */
 static void test(const char *name, const struct call *call, uint32_t wanted, size_t most) {
-    static const char *const CALLED[] = {"", "jwt_keys_add", "jwt_verifier_new", "jwt_verifier_decode"};
+    static const char *const CALLED[] = {"", "jwt_keys_add", "jwt_verifier_new", "jwt_verifier_decode", "jwt_sign"};
     static const struct call NO_CALL;
     const size_t thread = stack_of(&NO_CALL);
     status = UINT32_MAX;
@@ -101,21 +105,21 @@ static void verify_all(const char *name, const char *token, const char *options,
     verify(name, token, options, EXPIRED, JWT_EXPIRED_SIGNATURE, most);
 }
 
-/* Writes a token with HS256, with this many levels of arrays in its header and in its claims. */
-static void write_nested(size_t of_header, size_t of_claims, char *token, size_t room) {
-    static const char SECRET[] = "a secret of thirty-two characters";
+/* Signs a token with HS256 into `nested`, with this many levels of arrays in its header and in its claims. */
+static void sign_nested(size_t of_header, size_t of_claims) {
     char open[LEVELS + 1], close[LEVELS + 1], header[512], claims[512];
+    const struct call signs = {SIGNS, header, claims, 0};
+    size_t items, kept;
     memset(open, '[', LEVELS);
     memset(close, ']', LEVELS);
-    int header_len = snprintf(header, sizeof header, "{\"alg\":\"HS256\",\"kid\":\"hmac\",\"x\":[%.*s%.*s]}",
-                              (int)of_header - 1, open, (int)of_header - 1, close);
-    int claims_len = snprintf(claims, sizeof claims, "{\"exp\":2532524891,\"x\":[%.*s%.*s]}", (int)of_claims - 1, open,
-                              (int)of_claims - 1, close);
-    size_t len;
-    if (jwt_encode_hmac(header, (size_t)header_len, claims, (size_t)claims_len, (const uint8_t *)SECRET, strlen(SECRET),
-                        token, room - 1, &len) != JWT_OK)
-        len = 0;
-    token[len] = 0;
+    memset(nested, 0, sizeof nested);
+    snprintf(header, sizeof header, "{\"alg\":\"HS256\",\"kid\":\"hmac\",\"x\":[%.*s%.*s]}", (int)of_header - 1, open,
+             (int)of_header - 1, close);
+    snprintf(claims, sizeof claims, "{\"exp\":2532524891,\"x\":[%.*s%.*s]}", (int)of_claims - 1, open,
+             (int)of_claims - 1, close);
+    jwt_keys_add(&keys, JWT_TEXT, (const uint8_t *)HMAC_KEY, strlen(HMAC_KEY), &items, &kept);
+    test("a token that nests", &signs, JWT_OK, MOST_OF_NESTED);
+    jwt_free(&keys);
 }
 
 int main(void) {
@@ -123,7 +127,7 @@ int main(void) {
         {"HS256", BY_HS256}, {"RS256", BY_RS256}, {"PS256", BY_PS256},
         {"ES256", BY_ES256}, {"ES384", BY_ES384}, {"EdDSA", BY_EDDSA},
     };
-    char options[64], nested[2048];
+    char options[64];
     for (size_t i = 0; i < sizeof ALGORITHMS / sizeof *ALGORITHMS; i++) {
         snprintf(options, sizeof options, "{\"algorithms\":[\"%s\"]}", ALGORITHMS[i][0]);
         verify_all(ALGORITHMS[i][0], ALGORITHMS[i][1], options, MOST);
@@ -132,9 +136,9 @@ int main(void) {
     verify("a header without alg", "e30.e30.", BY_HMAC, 0, JWT_JSON, MOST);
     verify("an unknown kid", "eyJhbGciOiJIUzI1NiIsImtpZCI6IngifQ.e30.", BY_HMAC, 0, JWT_NO_KEY, MOST);
     verify("another algorithm", BY_ES256, BY_HMAC, 0, JWT_INVALID_ALGORITHM, MOST);
-    write_nested(LEVELS, 1, nested, sizeof nested);
+    sign_nested(LEVELS, 1);
     verify_all("a header that nests", nested, BY_HMAC, MOST_OF_NESTED);
-    write_nested(1, LEVELS, nested, sizeof nested);
+    sign_nested(1, LEVELS);
     verify_all("claims that nest", nested, BY_HMAC, MOST_OF_NESTED);
     printf("%u passed, %u failed\n", passed, failed);
     return failed != 0;

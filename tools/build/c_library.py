@@ -12,6 +12,8 @@ from build.crates import crates
 from build.kit import TOP, stop, tell
 
 CRATE = "jwt_c"
+# The number of the soname, as the header says: it grows if a program that was linked with an earlier library would not run with this one.
+SONAME = 1
 OUT = f"{TOP}/out"
 
 
@@ -24,7 +26,7 @@ def names():
     """Returns the paths of the static library, and of the shared one with its other names."""
     number = version()
     shared = f"{OUT}/libjwtproved.so"
-    return f"{OUT}/libjwtproved.a", f"{shared}.{number}", [f"{shared}.{number.split('.')[0]}", shared]
+    return f"{OUT}/libjwtproved.a", f"{shared}.{number}", [f"{shared}.{SONAME}", shared]
 
 
 def is_current():
@@ -36,18 +38,17 @@ def is_current():
 def link(library, compiler):
     """Links the library for C from the static library of the crate. Returns whether that went well."""
     static, shared, others = names()
-    major = version().split(".")[0]
     os.makedirs(OUT, exist_ok=True)
     with tempfile.TemporaryDirectory(dir=OUT) as scratch:
         whole, linked, exports = f"{scratch}/jwtproved.o", f"{scratch}/shared", f"{scratch}/exports.map"
         # the version of the names keeps them apart from those of another library in the same process
         with open(exports, "w", encoding="utf-8") as file:
-            file.write(f"JWTPROVED_{major} {{ global: jwt_*; local: *; }};\n")
+            file.write(f"JWTPROVED_{SONAME} {{ global: jwt_*; local: *; }};\n")
         commands = [
             ["ld", "-r", "-o", whole, "--whole-archive", library, "--no-whole-archive", f"{kit.folder()}/c/liblibc_c.a"],
             ["objcopy", "--wildcard", "--keep-global-symbol=jwt_*", whole],
             ["ar", "rcsD", f"{scratch}/static", whole],
-            [compiler, "-shared", "-o", linked, f"-Wl,-soname,libjwtproved.so.{major}", "-Wl,-s,-z,relro,-z,now", f"-Wl,--version-script={exports}", whole],
+            [compiler, "-shared", "-o", linked, f"-Wl,-soname,libjwtproved.so.{SONAME}", "-Wl,-s,-z,relro,-z,now", f"-Wl,--version-script={exports}", whole],
         ]
         if any(subprocess.run(command).returncode for command in commands):
             return False

@@ -5,7 +5,7 @@
 //!
 //! For programs in C, and for the packages for Python, Rust, Go and nginx, which call nothing else.
 //! A call is a function with the header's name that leaves the answer of a function of
-//! `jwt_c_calls` in the caller's buffer: `jwt_encode_hmac` leaves that of `encode_answer`.
+//! `jwt_c_calls` in the caller's buffer: `jwt_signing_input` leaves that of `input_answer`.
 //!
 //! `packages/c/examples` has programs to start from.
 
@@ -20,62 +20,65 @@
 
 #![tactic(auto)]
 
-ghost use Rattle.std.specs.Prelude.{◌≡◌, ℕ, Option, None, Some};
-ghost use Rattle.jwt_base.specs.declared.algorithms.AlgorithmFamily.{AlgorithmFamily as Family};
+ghost use Rattle.std.specs.Prelude.{◌≡◌, ℕ, None, Some};
 ghost use Rattle.jwt_base.specs.Algorithm.{name_of};
 ghost use Rattle.jwt_base.specs.Kind.{Kind};
 ghost use Rattle.jwt_base.specs.declared.algorithms.Algorithm.{Algorithm};
 ghost use Rattle.jsonwebtoken.specs.TestName.{test_name};
 ghost use Rattle.jsonwebtoken.specs.declared.refusal.Test.{Test};
-ghost use Rattle.jwt_c_calls.specs.BySignature.{AnswersSignature, AnswersEcdsa, LeavesInput};
+ghost use Rattle.jwt_c_calls.specs.BySignature.{AnswersEcdsa, LeavesAttached, LeavesInput};
 ghost use Rattle.jwt_c_calls.specs.Calls.{Answer, Leaves, LeavesSigned, AnswersGivenVerdict};
-ghost use Rattle.jwt_c_calls.specs.Calls.{AnswersIssuedAt, AnswersNumbers, status_of};
+ghost use Rattle.jwt_c_calls.specs.Calls.{claim_of, status_of};
 ghost use Rattle.jwt_c_calls.specs.ClaimRules.{AnswersRules};
 ghost use Rattle.jwt_c_calls.specs.Contents.{keys_in};
-ghost use Rattle.jwt_c_calls.specs.Held.{LeavesAdded, LeavesInfo, LeavesKey, LeavesMade, LeavesShared};
-ghost use Rattle.jwt_c_calls.specs.Held.{LeavesThumbprint, LeavesUntil, IsFamilyIn, info_held, key_held};
-ghost use Rattle.jwt_c_calls.specs.Issued.{AnswersEncode};
+ghost use Rattle.jwt_c_calls.specs.Held.{LeavesAdded, LeavesInfo, LeavesJoined, LeavesKey, LeavesMade};
+ghost use Rattle.jwt_c_calls.specs.Held.{LeavesShared, LeavesThumbprint, info_held, key_held};
+ghost use Rattle.jwt_c_calls.specs.Issued.{LeavesToken};
 ghost use Rattle.jwt_c_calls.specs.KeyForms.{AnswersText, hash_numbered};
 ghost use Rattle.jwt_c_calls.specs.KeySources.{source_numbered};
 ghost use Rattle.jwt_c_calls.specs.Members.{LeavesMember};
 ghost use Rattle.jwt_c_calls.specs.Membership.{ChecksMember};
 ghost use Rattle.jwt_c_calls.specs.Options.{AnswersFault, AnswersQuoted};
-ghost use Rattle.jwt_c_calls.specs.Signatures.{AnswersVerifyHmac, AnswersVerifyKey};
+ghost use Rattle.jwt_c_calls.specs.Signatures.{LeavesCheck};
 ghost use Rattle.jwt_c_calls.specs.Status.{algorithm_numbered, kind_part, number as status_number, told_text};
 ghost use Rattle.jwt_c_calls.specs.TestNumbers.{test_number};
 ghost use Rattle.jwt_c_calls.specs.Texts.{IsNumberOfName, LeavesText, text_numbered};
 ghost use Rattle.jwt_c_calls.specs.Unverified.{LeavesPart};
+ghost use Rattle.jwt_c_calls.specs.Verdicts.{LeavesVerdict};
 ghost use Rattle.jwt_c_calls.specs.Verifiers.{limits_of};
-ghost use Rattle.jwt_c.specs.Issued.{LeavesByKey};
 
 use jsonwebtoken::signed_part;
-use jwt_c_calls::answers::{CallerVerdict, given_verdict_answer, issued_at_answer, numbers_answer};
-use jwt_c_calls::by_signature::{ecdsa_answer, input_answer, signature_answer};
+use jwt_c_calls::answers::{CallerVerdict, given_verdict_answer};
+use jwt_c_calls::by_signature::{attach_in, ecdsa_answer};
 use jwt_c_calls::claim_rules::rules_answer;
+use jwt_c_calls::exact::input_answer;
 use jwt_c_calls::handle::Handle;
 use jwt_c_calls::handle_results::{
-    add_keys, answer_in, info_in, leave_key, share, verifier_from, write_handle, write_verdict,
+    add_keys, answer_in, info_in, join, leave_key, share, verifier_from, write_handle,
 };
 use jwt_c_calls::held_keys::KeyInfo;
-use jwt_c_calls::issued::{encode_answer, encode_key_answer};
+use jwt_c_calls::issued::leave_signed;
 use jwt_c_calls::key_forms::{KeyForm, numbered_hash};
 use jwt_c_calls::key_sources::numbered_source;
 use jwt_c_calls::members::member_answer;
 use jwt_c_calls::membership::member_status;
 use jwt_c_calls::options::{options_answer, quoted_answer};
-use jwt_c_calls::secrets::key_status;
-use jwt_c_calls::signatures::{hmac_signature_answer, key_signature_answer};
-use jwt_c_calls::status::{algorithm_number, leave, number_of, put_bytes, status_of};
+use jwt_c_calls::signatures::check_in;
+use jwt_c_calls::status::{
+    algorithm_number, claim_in, claim_of as refusal_claim, leave, number_of, put_bytes, status_of,
+};
 use jwt_c_calls::status_table::{
     INVALID_ALGORITHM_NAME, NO_MEMBER, NO_VERIFIER, OK, UNKNOWN_NUMBER,
 };
 use jwt_c_calls::texts::{number_of_name, text_numbered};
 use jwt_c_calls::unverified::{numbered_part, part_answer};
+use jwt_c_calls::verdicts::{TokenRefusal, Verdict, write_verdict};
 use std::alloc::Global;
 
 /// Verifies a token whose signature the caller has checked: `verdict` is the yes or no to this
 /// signature of this message by the algorithm of this number. A number of no algorithm is refused
-/// with `InvalidAlgorithmName`, before the options are read.
+/// with `InvalidAlgorithmName`, before the options are read. `claim` is set to the place of a claim's
+/// name in the option `required` or `texts` that it does not meet, from 1 on, and else to 0.
 #[unsafe(no_mangle)]
 pub extern "C" fn jwt_decode_verdict(
     alloc: Global,
@@ -86,12 +89,13 @@ pub extern "C" fn jwt_decode_verdict(
     verdict: bool,
     options: &[u8],
     time: u64,
+    claim: &mut u32,
     room: &mut [u8],
     len: &mut usize,
 ) -> u32
     ensures { (a : Answer) × AnswersGivenVerdict (algorithm_numbered algorithm) options.now token.now
         (record { message = message.now; signature = signature.now; says_yes = verdict }) time a
-        × Leaves a result len.new room.old room.new }
+        × (claim.new ≡ claim_of a) × Leaves a result len.new room.old room.new }
 {
     let said = CallerVerdict {
         algorithm,
@@ -100,6 +104,7 @@ pub extern "C" fn jwt_decode_verdict(
         verdict,
     };
     let answer = given_verdict_answer(alloc, token, &said, options, time);
+    *claim = claim_in(&answer);
     leave(answer, room, len)
 }
 
@@ -133,54 +138,11 @@ pub extern "C" fn jwt_signed_part(
     }
 }
 
-/// Verifies a signature of a message, both as bytes, with a secret, by the algorithm of this
-/// number, as the verifier of `StandardProvider` does: returns 0, or the status of
-/// `InvalidSignature`. A number of no algorithm is refused with `InvalidAlgorithmName`, and one of
-/// another family with `InvalidKeyFormat`.
-#[unsafe(no_mangle)]
-pub extern "C" fn jwt_verify_signature_hmac(
-    alloc: Global,
-    message: &[u8],
-    signature: &[u8],
-    secret: &[u8],
-    algorithm: u32,
-) -> u32
-    ensures { (a : Answer) × AnswersVerifyHmac (algorithm_numbered algorithm)
-        message.now signature.now secret.now a × (result ≡ status_of a) }
-{
-    match hmac_signature_answer(alloc, message, signature, secret, algorithm) {
-        Ok(()) => OK.0,
-        Err(refusal) => status_of(&refusal),
-    }
-}
-
-/// Verifies a signature of a message like `jwt_verify_signature_hmac`, with a key, which is the
-/// JSON text of one JSON Web Key (RFC 7517 section 4) of any kind. The number is tested before the
-/// key is read. Any other text is refused with 106, a key of which
-/// [`DecodingKey::from_jwk`](jsonwebtoken::DecodingKey::from_jwk) makes none with its kind, and a
-/// key that is of another family or does not serve with `InvalidKeyFormat`.
-#[unsafe(no_mangle)]
-pub extern "C" fn jwt_verify_signature_key(
-    alloc: Global,
-    message: &[u8],
-    signature: &[u8],
-    key: &[u8],
-    algorithm: u32,
-) -> u32
-    ensures { (a : Answer) × AnswersVerifyKey (algorithm_numbered algorithm)
-        message.now signature.now key.now a × (result ≡ status_of a) }
-{
-    match key_signature_answer(alloc, message, signature, key, algorithm) {
-        Ok(()) => OK.0,
-        Err(refusal) => status_of(&refusal),
-    }
-}
-
-/// Writes a part of a token as JSON, with the members in the order of their names: the header if
-/// `part` is 1, and the payload if it is 2. Nothing is verified, and the token may be of any
-/// algorithm. A text with fewer than two dots is refused with `InvalidToken`, a part that is not
-/// base64url with `Base64`, and one that is not the JSON of an object with `Json`. Any other `part`
-/// is 102.
+/// Writes a part of a token as it was signed: the header if `part` is 1, and the payload if it is 2. A
+/// part in which an object has a name twice is written as JSON of its value. Nothing is verified, and
+/// the token may be of any algorithm. A text with fewer than two dots is refused with `InvalidToken`,
+/// a part that is not base64url with `Base64`, and one that is not the JSON of an object with `Json`.
+/// Any other `part` is 102.
 #[unsafe(no_mangle)]
 pub extern "C" fn jwt_unverified(
     alloc: Global,
@@ -206,75 +168,65 @@ pub extern "C" fn jwt_unverified(
 /// Checks claims by the rules of options at the time `time`: returns 0 if every rule holds, and else
 /// the status of the first that does not. The algorithms of the options are not looked at, and
 /// nothing is verified. A text that does not describe options is 101, and then claims that are not
-/// the JSON of an object are 105.
+/// the JSON of an object are 105. `claim` is set as by `jwt_decode_verdict`.
 #[unsafe(no_mangle)]
-pub extern "C" fn jwt_check_claims(alloc: Global, claims: &[u8], options: &[u8], time: u64) -> u32
-    ensures { (a : Answer) × AnswersRules options.now claims.now time a × (result ≡ status_of a) }
+pub extern "C" fn jwt_check_claims(
+    alloc: Global,
+    claims: &[u8],
+    options: &[u8],
+    time: u64,
+    claim: &mut u32,
+) -> u32
+    ensures { (a : Answer) × AnswersRules options.now claims.now time a
+        × (claim.new ≡ claim_of a) × (result ≡ status_of a) }
 {
     match rules_answer(alloc, claims, options, time) {
-        Ok(()) => OK.0,
-        Err(refusal) => status_of(&refusal),
+        Ok(()) => {
+            *claim = 0;
+            OK.0
+        }
+        Err(refusal) => {
+            *claim = refusal_claim(&refusal);
+            status_of(&refusal)
+        }
     }
 }
 
-/// Signs a header and claims, which are JSON texts of objects, with HMAC and a secret, and writes
-/// the token.
+/// Signs a header and a payload, which are JSON texts of objects without a name twice, byte for byte
+/// with the one key of a handle, and writes the token. The status is 117 if the handle holds no keys,
+/// and 118 if it holds several, or a set. Then the header is read, 104, and the payload, 105. A key
+/// that is no secret is refused with `InvalidKeyFormat`, and one that is not for the header's
+/// algorithm, or an algorithm of another family, with `InvalidAlgorithm`.
 #[unsafe(no_mangle)]
-pub extern "C" fn jwt_encode_hmac(
+pub extern "C" fn jwt_sign(
     alloc: Global,
+    keys: &mut Handle,
     header: &[u8],
-    claims: &[u8],
-    secret: &[u8],
+    payload: &[u8],
     room: &mut [u8],
     len: &mut usize,
 ) -> u32
-    ensures { (a : Answer) × AnswersEncode header.now claims.now secret.now a
-        × Leaves a result len.new room.old room.new }
+    ensures held { keys.new.held ≡ keys.old.held }
+    ensures token { LeavesToken (keys_in keys.old.held) header.now payload.now result len.new
+        room.old room.new }
 {
-    let answer = encode_answer(alloc, header, claims, secret);
-    leave(answer, room, len)
-}
-
-/// Signs a header and claims like `jwt_encode_hmac`, with the secret of a JSON Web Key of the type
-/// `oct` (RFC 7518 section 6.4). The key is a JSON text. It is checked first: any other text is
-/// refused with 106, a secret with which anyone can sign with 107, and one that is the text of a key
-/// of another kind with 113. A key of which
-/// [`DecodingKey::from_jwk`](jsonwebtoken::DecodingKey::from_jwk) makes none is refused with its
-/// kind after the claims are read, and then a key of another family with `InvalidKeyFormat`.
-#[unsafe(no_mangle)]
-pub extern "C" fn jwt_encode_key(
-    alloc: Global,
-    header: &[u8],
-    claims: &[u8],
-    key: &[u8],
-    room: &mut [u8],
-    len: &mut usize,
-) -> u32
-    ensures { LeavesByKey header.now claims.now key.now result len.new room.old room.new }
-{
-    let found = key_status(alloc, key);
-    if found != OK.0 {
-        *len = 0;
-        return found;
-    }
-    let answer = encode_key_answer(alloc, header, claims, key);
-    leave(answer, room, len)
+    leave_signed(alloc, keys, header, payload, room, len)
 }
 
 /// Writes the message of a token that is to be signed elsewhere, and the number of the algorithm
-/// that its header names. The header and the claims are JSON texts of objects.
+/// that its header names. The header and the payload are read as by `jwt_sign`.
 #[unsafe(no_mangle)]
 pub extern "C" fn jwt_signing_input(
     alloc: Global,
     header: &[u8],
-    claims: &[u8],
+    payload: &[u8],
     number: &mut u32,
     room: &mut [u8],
     len: &mut usize,
 ) -> u32
-    ensures { LeavesInput header.now claims.now number.new result len.new room.old room.new }
+    ensures { LeavesInput header.now payload.now number.new result len.new room.old room.new }
 {
-    match input_answer(alloc, header, claims) {
+    match input_answer(alloc, header, payload) {
         Ok(input) => {
             *number = algorithm_number(input.algorithm);
             put_bytes(input.message.as_bytes(), room, len)
@@ -287,26 +239,31 @@ pub extern "C" fn jwt_signing_input(
     }
 }
 
-/// Writes the token of a header and claims, which are JSON texts of objects, with this signature of
-/// this message, which was made elsewhere by the algorithm of this number. A number of no algorithm
-/// is refused with `InvalidAlgorithmName`, before the header is read.
+/// Writes the token of a message of `jwt_signing_input` and a signature that was made elsewhere, once
+/// the one key of the verifier that a handle holds accepts it. With a handle that holds nothing the
+/// length of the signature is tested alone. The status is 108 if the handle holds keys; 118 if the
+/// verifier has a set, or there are several; 17 if the message is no message, or the signature has no
+/// length of the header's algorithm; and then that of `jwt_verifier_check`.
 #[unsafe(no_mangle)]
-pub extern "C" fn jwt_encode_signature(
+pub extern "C" fn jwt_attach(
     alloc: Global,
-    header: &[u8],
-    claims: &[u8],
-    algorithm: u32,
+    verifier: &mut Handle,
     message: &[u8],
     signature: &[u8],
     room: &mut [u8],
     len: &mut usize,
 ) -> u32
-    ensures { (a : Answer) × AnswersSignature (algorithm_numbered algorithm)
-        message.now signature.now header.now claims.now a
-        × Leaves a result len.new room.old room.new }
+    ensures held { verifier.new.held ≡ verifier.old.held }
+    ensures token { LeavesAttached verifier.old.held message.now signature.now result len.new
+        room.old room.new }
 {
-    let answer = signature_answer(alloc, header, claims, algorithm, message, signature);
-    leave(answer, room, len)
+    match attach_in(alloc, verifier, message, signature) {
+        Ok(token) => put_bytes(token.as_slice(), room, len),
+        Err(status) => {
+            *len = 0;
+            status
+        }
+    }
 }
 
 /// Writes the two numbers of a signature in DER, by the algorithm of ECDSA with this number. A
@@ -352,30 +309,6 @@ pub extern "C" fn jwt_options_fault(
 {
     let answer = options_answer(alloc, options);
     leave(answer, room, len)
-}
-
-/// Checks that every number of the claims is an integer from -2^63 to 2^64 - 1: else it returns the
-/// status of `Json`, and for a text that is not the JSON of an object 105.
-#[unsafe(no_mangle)]
-pub extern "C" fn jwt_check_numbers(alloc: Global, claims: &[u8]) -> u32
-    ensures { (a : Answer) × AnswersNumbers claims.now a × (result ≡ status_of a) }
-{
-    match numbers_answer(alloc, claims) {
-        Ok(()) => OK.0,
-        Err(refusal) => status_of(&refusal),
-    }
-}
-
-/// Checks that a token was issued by the time `time`, or at most `leeway` seconds after it: else it
-/// returns the status of `ImmatureSignature` (RFC 7519 section 4.1.6).
-#[unsafe(no_mangle)]
-pub extern "C" fn jwt_check_issued_at(issued_at: u64, leeway: u64, time: u64) -> u32
-    ensures { (a : Answer) × AnswersIssuedAt issued_at leeway time a × (result ≡ status_of a) }
-{
-    match issued_at_answer(issued_at, leeway, time) {
-        Ok(()) => OK.0,
-        Err(refusal) => status_of(&refusal),
-    }
 }
 
 /// Reads the keys that some bytes are, and adds them after those that the handle holds. All together
@@ -536,10 +469,50 @@ pub extern "C" fn jwt_share(alloc: Global, handle: &mut Handle, other: &mut Hand
     share(alloc, handle, other)
 }
 
-/// Verifies a token at the time `time`, and writes its claims as JSON. It sets `last` to the last
-/// time at which it accepts the token, or to 0 if it refuses it, and `test` to the number of the
-/// first test that failed, or to 0 if none did. The status is 108 for a handle that holds no
-/// verifier, and 111 for a token that is longer than the verifier allows, of which nothing is read.
+/// Makes one handle of the verifiers of two: a token is offered to those of the first, and then to
+/// those of the second. The status is 109 if the third handle holds something, which is unchanged, and
+/// 108 if one of the two holds no verifier.
+#[unsafe(no_mangle)]
+pub extern "C" fn jwt_verifier_or(
+    alloc: Global,
+    first: &mut Handle,
+    second: &mut Handle,
+    either: &mut Handle,
+) -> u32
+    ensures first { first.new.held ≡ first.old.held }
+    ensures second { second.new.held ≡ second.old.held }
+    ensures either { LeavesJoined first.old.held second.old.held either.old.held either.new.held
+        result }
+{
+    join(alloc, first, second, either)
+}
+
+/// Verifies a signature of a message, both as bytes, with the one key of the verifier that a handle
+/// holds and the algorithm of this number: returns 0, or the status of `InvalidSignature`. The status
+/// is 108 if the handle holds no verifier, and 118 if that has a set, or there are several. A number
+/// of no algorithm is refused with `InvalidAlgorithmName`, one that is not listed with
+/// `InvalidAlgorithm`, and one that the key does not serve with `InvalidKeyFormat`.
+#[unsafe(no_mangle)]
+pub extern "C" fn jwt_verifier_check(
+    alloc: Global,
+    verifier: &mut Handle,
+    algorithm: u32,
+    message: &[u8],
+    signature: &[u8],
+) -> u32
+    ensures held { verifier.new.held ≡ verifier.old.held }
+    ensures check { LeavesCheck verifier.old.held (algorithm_numbered algorithm) message.now
+        signature.now result }
+{
+    check_in(alloc, verifier, algorithm, message, signature)
+}
+
+/// Verifies a token at the time `time` with the verifiers that a handle holds, and writes its claims
+/// as they were signed. `said` is set to what is said of the token: the last time at which it is
+/// accepted, the length of the claims, the place of the verifier, the number of the header's algorithm, the number of the first
+/// test that failed, the place of a claim's name in the option that it does not meet, whether the
+/// header has a `kid`, and whether the claims are the payload's own bytes. The status is 108 for a
+/// handle that holds no verifier, and 111 for a token that is longer than the verifier allows.
 #[unsafe(no_mangle)]
 pub extern "C" fn jwt_verifier_decode(
     alloc: Global,
@@ -547,28 +520,19 @@ pub extern "C" fn jwt_verifier_decode(
     token: &[u8],
     time: u64,
     room: &mut [u8],
-    len: &mut usize,
-    last: &mut u64,
-    test: &mut u32,
+    said: &mut Verdict,
 ) -> u32
     ensures held { verifier.new.held ≡ verifier.old.held }
-    // Of the listed algorithms those count that are of the family of the token's key.
-    ensures decided { (f : Option Family) → IsFamilyIn verifier.old.held token.now f
-        → LeavesUntil f verifier.old.held token.now time last.new test.new result len.new
-        room.old room.new }
+    ensures said { LeavesVerdict verifier.old.held token.now time said.new result room.old
+        room.new }
 {
     match verifier.take(alloc) {
         Some(held) => {
             let answer = answer_in(alloc, &*held, token, time);
             *verifier = Handle::of(held);
-            write_verdict(answer, room, len, last, test)
+            write_verdict(answer, room, said)
         }
-        None => {
-            *last = 0;
-            *test = 0;
-            *len = 0;
-            NO_VERIFIER.0
-        }
+        None => write_verdict(Err(TokenRefusal::of(0, NO_VERIFIER.0, 0, 0)), room, said),
     }
 }
 
@@ -581,23 +545,25 @@ pub extern "C" fn jwt_free(alloc: Global, handle: &mut Handle)
     *handle = Handle::none(alloc);
 }
 
-/// Writes the member of this name of a JSON object: the bytes of a string, without quotes and
-/// escapes, and JSON of any other value. `type_number` is set to 1 for null, 2 for a boolean, 3 for
-/// a number, 4 for a string, 5 for an array and 6 for an object, and to 0 if there is no such
-/// member. A text that is not the JSON of an object is refused with 105, and the status is 112 if
-/// it has no member of this name. Of several members of one name the last counts.
+/// Writes the value at a path of a JSON object: the bytes of a string, without quotes and escapes, and
+/// JSON of any other value, whose numbers keep their digits. The path is a JSON list of names, of
+/// which each is that of a member of the value before it. `type_number` is set to 1 for null, 2 for a
+/// boolean, 3 for a number, 4 for a string, 5 for an array and 6 for an object, and to 0 if there is no
+/// such value. A text that is not a path is refused with 101, and one that is not the JSON of an
+/// object with 105. The status is 112 if there is no value. Of several members of one name the last
+/// counts.
 #[unsafe(no_mangle)]
 pub extern "C" fn jwt_member(
     alloc: Global,
     json: &[u8],
-    name: &[u8],
+    path: &[u8],
     type_number: &mut u32,
     room: &mut [u8],
     len: &mut usize,
 ) -> u32
-    ensures { LeavesMember json.now name.now type_number.new result len.new room.old room.new }
+    ensures { LeavesMember json.now path.now type_number.new result len.new room.old room.new }
 {
-    match member_answer(alloc, json, name) {
+    match member_answer(alloc, json, path) {
         Ok(Some(found)) => {
             *type_number = found.type_number;
             put_bytes(found.text.as_slice(), room, len)
@@ -615,15 +581,15 @@ pub extern "C" fn jwt_member(
     }
 }
 
-/// Checks that the member of this name of a JSON object has a text: returns 0 if it is an array of
-/// which an item is this string, or a string of which a word is the text. Words are parted by a
-/// space, as those of `scope` (RFC 6749 section 3.3). A text that is not the JSON of an object is
-/// refused with 105, and else the status is 112. Of several members of one name the last counts.
+/// Checks that the value at a path of a JSON object has a text: returns 0 if it is an array of which
+/// an item is this string, or a string of which a word is the text. Words are parted by a space, as
+/// those of `scope` (RFC 6749 section 3.3). The texts are read, and refused, as by `jwt_member`, and
+/// else the status is 112.
 #[unsafe(no_mangle)]
-pub extern "C" fn jwt_check_member(alloc: Global, json: &[u8], name: &[u8], text: &[u8]) -> u32
-    ensures { ChecksMember json.now name.now text.now result }
+pub extern "C" fn jwt_check_member(alloc: Global, json: &[u8], path: &[u8], text: &[u8]) -> u32
+    ensures { ChecksMember json.now path.now text.now result }
 {
-    member_status(alloc, json, name, text)
+    member_status(alloc, json, path, text)
 }
 
 /// Returns the number of the algorithm with this name, such as 4 for `RS256`, or 0 for any other

@@ -1,11 +1,12 @@
 -- A verifier that is made of keys and options.
 use Rattle.std.proofs.Common.{◌≡◌, ◌≤◌, ap, refl, subst, sym, ℕ, List, Option, Some, None, Result, Ok, Err, IfOk, IfErr, inl, inr}
 use Rattle.std.specs.Prelude.{MatchOption}
-use Rattle.jwt_base.specs.JsonText.{ReadsText}
 use Rattle.jwt_keys.specs.Key.{Key}
 use Rattle.jwt_keys.specs.KeyOfJwk.{IsKeyOf}
 use Rattle.jwt_keys.specs.declared.jwk.Jwk.{Jwk}
 use Rattle.jwt_key_items.specs.KeyItems.{kept_of}
+use Rattle.jwt_base.specs.JsonText.{ReadsText}
+use Rattle.jwt_further.specs.Further.{rules_of}
 use Rattle.jwt_validation.specs.OptionsOf.{options_of}
 use Rattle.jwt_validation.specs.declared.validation.Validation.{Validation}
 use Rattle.jsonwebtoken.specs.Own.{with_algorithms}
@@ -14,9 +15,12 @@ use Rattle.jwt_verifier.specs.declared.keys.Keys.{Keys}
 use Rattle.jwt_verifier.specs.declared.keys.Keys.TheVariants.{One}
 use Rattle.jwt_verifier.specs.declared.limits.Limits.{Limits}
 use Rattle.jwt_verifier.specs.declared.verifier.Verifier.{Verifier}
-use Rattle.jwt_c_calls.specs.Inputs.{ReadsOptions}
+use Rattle.jwt_c_calls.specs.Acceptors.{made_value}
+use Rattle.jwt_c_calls.specs.Asked.{ReadsAsked, asked_of}
 use Rattle.jwt_c_calls.specs.KeyLists.{KeyList, lone_key}
-use Rattle.jwt_c_calls.specs.Verifiers.{AreAgreeing, AreUsable, HasAgreeing, HasSet, IsOfKey, IsUnfit, IsUnmade, IsVerifierOf}
+use Rattle.jwt_c_calls.specs.declared.acceptors.Made.{Made}
+use Rattle.jwt_c_calls.specs.declared.asked.Asked.{Asked}
+use Rattle.jwt_c_calls.specs.Verifiers.{AreAgreeing, AreUsable, HasAgreeing, HasSet, IsOfKey, IsUnfit, IsUnmade, IsVerifierBy, IsVerifierOf}
 use Rattle.jwt_c_calls.specs.Verifiers.{KeyServes, SetServes}
 use Rattle.jwt_c_calls.proofs.Agreeing.{serves, serves_not}
 
@@ -56,42 +60,40 @@ abbrev pub IsMadeOfSet : List Jwk → Validation → Limits → Verifier → Typ
 IsMadeOfSet kept given limits v = HasSet kept v.keys.keys × (v.validation ≡ given) × (v.limits ≡ limits)
     × (v.keys.prepared ≤ limits.max_prepared) × SetServes given.algorithms.items kept
 
-module _ (held : KeyList) (text : List ℕ) (given : Validation) (reads : ReadsText ReadsOptions text (options_of given)) where
-  abbrev Usable : Option Jwk → Type 0
-  Usable o = MatchOption o (SetServes given.algorithms.items (kept_of held.items)) (KeyServes given.algorithms.items)
-
-  unusable : (o : Option Jwk) → lone_key held ≡ o → (s : ℕ) → IsUnfit (Usable o) s → IsUnmade held text s
-  unusable o e s (inl m) = inl m
-  unusable o e s (inr u) = inr (inr (u.0, (options_of given, reads, λ usable. u.1 (subst Usable e usable))))
-
-  module _ (limits : Limits) where
-    abbrev Are : Verifier → Option Jwk → Type 0
-    Are v o = MatchOption o (HasSet (kept_of held.items) v.keys.keys × (options_of v.validation ≡ options_of given))
-        (λ jwk. IsOfKey jwk v.keys.keys × AreAgreeing jwk (options_of given) (options_of v.validation))
-
-    made : (v : Verifier) (o : Option Jwk) → lone_key held ≡ o → v.limits ≡ limits → v.keys.prepared ≤ limits.max_prepared → Are v o
-        → Usable o → IsVerifierOf held text limits v
-    made v o e same within are usable =
-        (same, within, (options_of given, reads, subst (Are v) (sym e) are, subst Usable (sym e) usable))
-
-    -- one key that is not in a set
-    pub lone_made : (jwk : Jwk) → lone_key held ≡ Some jwk → (r : Result Verifier ℕ) → IfOk r (IsMadeOfKey jwk given limits)
-        → IfOk r (IsVerifierOf held text limits)
-    lone_made jwk e (Ok v) h = made v (Some jwk) e h.2 h.3 (h.0, h.1) h.4
-    lone_made jwk e (Err s) h = tt
-
-    -- a set
-    pub set_made : lone_key held ≡ None → (r : Result Verifier ℕ) → IfOk r (IsMadeOfSet (kept_of held.items) given limits)
-        → IfOk r (IsVerifierOf held text limits)
-    set_made e (Ok v) h = made v None e h.2 h.3 (h.0, ap options_of h.1) h.4
-    set_made e (Err s) h = tt
+module _ (held : KeyList) (given : Validation) (limits : Limits) where
+  -- one key that is not in a set
+  pub lone_made : (jwk : Jwk) → lone_key held ≡ Some jwk → (r : Result Verifier ℕ) → IfOk r (IsMadeOfKey jwk given limits)
+      → IfOk r (IsVerifierBy held (options_of given) limits)
+  lone_made jwk e (Ok v) h = (h.2, h.3, rw e (h.0, h.1), rw e h.4)
+  lone_made jwk e (Err s) h = tt
 
   pub lone_unmade : (jwk : Jwk) → lone_key held ≡ Some jwk → (r : Result Verifier ℕ)
-      → IfErr r (IsUnfit (KeyServes given.algorithms.items jwk)) → IfErr r (IsUnmade held text)
+      → IfErr r (IsUnfit (KeyServes given.algorithms.items jwk)) → IfErr r (IsUnfit (AreUsable held given.algorithms.items))
   lone_unmade jwk e (Ok v) h = tt
-  lone_unmade jwk e (Err s) h = unusable (Some jwk) e s h
+  lone_unmade jwk e (Err s) h = rw e h
+
+  -- a set
+  pub set_made : lone_key held ≡ None → (r : Result Verifier ℕ) → IfOk r (IsMadeOfSet (kept_of held.items) given limits)
+      → IfOk r (IsVerifierBy held (options_of given) limits)
+  set_made e (Ok v) h = (h.2, h.3, rw e (h.0, ap options_of h.1), rw e h.4)
+  set_made e (Err s) h = tt
 
   pub set_unmade : lone_key held ≡ None → (r : Result Verifier ℕ)
-      → IfErr r (IsUnfit (SetServes given.algorithms.items (kept_of held.items))) → IfErr r (IsUnmade held text)
+      → IfErr r (IsUnfit (SetServes given.algorithms.items (kept_of held.items)))
+      → IfErr r (IsUnfit (AreUsable held given.algorithms.items))
   set_unmade e (Ok v) h = tt
-  set_unmade e (Err s) h = unusable None e s h
+  set_unmade e (Err s) h = rw e h
+
+-- ---- of the options of a text
+
+module _ (held : KeyList) (text : List ℕ) (asked : Asked) (limits : Limits) (reads : ReadsText ReadsAsked text (asked_of asked)) where
+  pub of_read : (r : Result Made ℕ) → IfOk r (λ m. IsVerifierBy held (options_of asked.validation) limits m.verifier)
+      → IfOk r (λ m. m.further ≡ asked.further) → IfOk r (λ m. IsVerifierOf held text limits (made_value m))
+  of_read (Ok m) by e = (by.0, by.1, (asked_of asked, reads, ap rules_of e, by.2, by.3))
+  of_read (Err s) by e = tt
+
+  pub not_of_read : (r : Result Made ℕ) → IfErr r (IsUnfit (AreUsable held (options_of asked.validation).algorithms))
+      → IfErr r (IsUnmade held text)
+  not_of_read (Ok m) h = tt
+  not_of_read (Err s) (inl m) = inl m
+  not_of_read (Err s) (inr u) = inr (inr (u.0, (asked_of asked, reads, u.1)))

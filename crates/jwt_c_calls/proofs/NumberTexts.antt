@@ -12,9 +12,10 @@ use Rattle.jsonwebtoken.specs.declared.refusal.Test.TheVariants.{SignatureIsAcce
 use Rattle.jsonwebtoken.specs.declared.refusal.Test.TheVariants.{ClaimsMatchType, ClaimsAreAnObject, ClaimsAreValid}
 use Rattle.jwt_c_calls.specs.Status.{algorithm_numbered}
 use Rattle.jwt_c_calls.specs.TestNumbers.{test_number}
-use Rattle.jwt_c_calls.specs.Texts.{text_numbered}
+use Rattle.jwt_c_calls.specs.Texts.{test_named, text_numbered}
 
 pub test_texts : (t : Test) → text_numbered 2 (test_number t) ≡ Some (test_name t)
+unfolding test_named
 test_texts HasThreeParts = refl
 test_texts HeaderIsBase64url = refl
 test_texts HeaderIsJson = refl

@@ -1,11 +1,6 @@
 -- The results of the calls for C.
 use Rattle.std.specs.Prelude.{◌≡◌, ◌⊎◌, ◌≤◌, ◌<◌, ◌+◌, ℕ, List, [], Bool, true, false, length, Option, Some, None, Result, Ok, Err}
-use Rattle.json.specs.Lex.{tokens}
-use Rattle.json.specs.Print.{print}
-use Rattle.serde_json.specs.Data.{Data, depth}
-use Rattle.serde_json.specs.Read.{max_depth}
-use Rattle.serde_json.specs.View.{view}
-use Rattle.serde_json.specs.Written.{has_float, compact_text, IsInOrder}
+use Rattle.serde_json.specs.Data.{Data}
 use Rattle.serde_json.specs.declared.value.Value.{Value}
 use Rattle.jwt_base.specs.Algorithm.{family_of}
 use Rattle.jwt_base.specs.Claims.{IsValue}
@@ -17,14 +12,16 @@ use Rattle.jwt_base.specs.declared.algorithms.Algorithm.{Algorithm}
 use Rattle.jwt_base.specs.declared.errors.Error.{Error}
 use Rattle.jwt_keys.specs.Key.{Plain}
 use Rattle.jwt_validation.specs.Options.{Options}
-use Rattle.jwt_c_calls.specs.Inputs.{ReadsOptions}
+use Rattle.jwt_further.specs.Further.{FurtherHolds, further_fault}
+use Rattle.jwt_further.specs.declared.FurtherFault.{FurtherFault}
+use Rattle.jwt_c_calls.specs.Asked.{AskedOptions, ReadsAsked}
+use Rattle.jwt_c_calls.specs.AsSigned.{IsShownAs}
 use Rattle.jwt_crypto.specs.Verdict.{Verdict, IsVerified, refusal_by}
 use Rattle.jsonwebtoken.specs.Order.{Passes, FailsFirst}
 use Rattle.jsonwebtoken.specs.Tests.{Call, Compact, Contents, Given, decode_order}
-use Rattle.jsonwebtoken.specs.Tests.{signed_order, header_call, message_of, verifying_call, token_tests}
+use Rattle.jsonwebtoken.specs.Tests.{signed_order, payload_bytes_order, header_call, message_of, verifying_call, token_tests}
 use Rattle.jsonwebtoken.specs.Vouched.{IsVouched}
-use Rattle.jwt_c_calls.specs.Inputs.{ReadsClaimsText}
-use Rattle.jwt_c_calls.specs.Status.{number, input_status, algorithm_numbered, IsGiven, IsKept}
+use Rattle.jwt_c_calls.specs.Status.{number, further_claim, further_status, input_status, algorithm_numbered, IsGiven, IsKept}
 use Rattle.jwt_c_calls.specs.declared.answers.CallerVerdict as given
 use Rattle.jwt_c_calls.specs.declared.inputs.Input.{Input}
 use Rattle.jwt_c_calls.specs.declared.inputs.Input.TheVariants as input
@@ -41,22 +38,15 @@ pub data Answer : Type 0 where
   Refuses : Kind → Answer
   -- this text does not describe the value that it must
   InputError : Input → Answer
+  -- this is the first of the further rules that fails
+  Breaks : FurtherFault → Answer
 
 -- its form in status, length and buffer
 abbrev pub Leaves : Answer → ℕ → ℕ → List ℕ → List ℕ → Type 0
 Leaves (Returns bytes) = IsGiven bytes
 Leaves (Refuses k) = IsKept (number k)
 Leaves (InputError i) = IsKept (input_status i)
-
--- ---- texts
-
--- The text is JSON of the value, without space, with its members in the order of their names (RFC
--- 8259). The text of a float is read back as that float.
-pub record IsTextOf (text : List ℕ) (value : Data) : Type 0 where
-  pub json : IsJson text value
-  pub compact : text ≡ print (tokens text)
-  pub order : IsInOrder text value
-  pub exact : has_float value ≡ false → text ≡ compact_text value
+Leaves (Breaks f) = IsKept (further_status f)
 
 -- ---- texts that are given
 
@@ -81,6 +71,16 @@ AnswersBy Reads IsInputError Shows Refused (Returns bytes) = (e : _) × Reads e 
 AnswersBy Reads IsInputError Shows Refused (Refuses k) = (k ≡ kind.OutOfMemory)
     ⊎ ((e : _) × Reads e × Refused e k)
 AnswersBy Reads IsInputError Shows Refused (InputError i) = IsInputError i
+AnswersBy Reads IsInputError Shows Refused (Breaks f) = ⊥
+
+-- the same if a further rule can fail for the values
+abbrev pub AnswersByRules : {E : Type 0} → (E → Type 0) → (Input → Type 0)
+    → (E → List ℕ → Type 0) → (E → Kind → Type 0) → (E → FurtherFault → Type 0) → Answer → Type 0
+AnswersByRules Reads IsInputError Shows Refused Broken (Returns bytes) = (e : _) × Reads e × Shows e bytes
+AnswersByRules Reads IsInputError Shows Refused Broken (Refuses k) = (k ≡ kind.OutOfMemory)
+    ⊎ ((e : _) × Reads e × Refused e k)
+AnswersByRules Reads IsInputError Shows Refused Broken (InputError i) = IsInputError i
+AnswersByRules Reads IsInputError Shows Refused Broken (Breaks f) = (e : _) × Reads e × Broken e f
 
 -- ---- claims
 
@@ -90,24 +90,21 @@ verdict_call token v time options =
     verifying_call (Compact token) (Given (Plain (family_of v.algorithm) [])) options time
     (refusal_by v) (λ _ _. IsVerified v) IsValue
 
--- the text is the JSON of the claims of accepted contents
+-- the text shows the payload of accepted contents
 abbrev pub IsClaimsText : (Contents → Type 0) → List ℕ → Type 0
-IsClaimsText Accepted claims = (t : Contents) × Accepted t × IsTextOf claims t.payload_value
+IsClaimsText Accepted claims = (t : Contents) × Accepted t
+    × ((as_signed : Bool) × IsShownAs t.payload_bytes t.payload_value claims as_signed)
 
--- with the options that the text describes: the claims of an accepted token, or the kind with which
--- it is refused
-abbrev pub AnswersWhere : List ℕ → (Options → Contents → Type 0) → (Options → Kind → Type 0)
-    → Answer → Type 0
-AnswersWhere text Accepted Refused = AnswersBy
-    (ReadsText ReadsOptions text) (IsErrorOfOne input.Options (ReadsText ReadsOptions text))
-    (λ o. IsClaimsText (Accepted o)) Refused
-
--- accepted contents are those that the verdict vouches for; a refusal has the kind of the first
--- test of `decode` that fails
+-- With the options that the text describes. Accepted contents are those that the verdict vouches for, if the further rules
+-- hold. A refusal has the kind of the first test of `decode` that fails, or is the first further rule that does.
 abbrev pub AnswersVerdict : List ℕ → List ℕ → Verdict → ℕ → Answer → Type 0
-AnswersVerdict text token v time = AnswersWhere text
-    (λ o. IsVouched (verdict_call token v time o) v)
-    (λ o. FailsFirst (token_tests (verdict_call token v time o)) decode_order)
+AnswersVerdict text token v time = AnswersByRules
+    (ReadsText ReadsAsked text) (IsErrorOfOne input.Options (ReadsText ReadsAsked text))
+    (λ o. IsClaimsText (λ t. IsVouched (verdict_call token v time o.usual) v t
+    × FurtherHolds o.further o.usual.leeway time t.payload_value))
+    (λ o. FailsFirst (token_tests (verdict_call token v time o.usual)) decode_order)
+    (λ o f. (t : Contents) × IsVouched (verdict_call token v time o.usual) v t
+    × (further_fault o.further o.usual.leeway time t.payload_value ≡ Some f))
 
 -- a caller's verdict, by the algorithm that is named by its number
 pub record Said : Type 0 where
@@ -127,19 +124,6 @@ abbrev pub AnswersGivenVerdict : Option Algorithm → List ℕ → List ℕ → 
 AnswersGivenVerdict None text token s time a = a ≡ Refuses kind.InvalidAlgorithmName
 AnswersGivenVerdict (Some algorithm) text token s time a =
     AnswersVerdict text token (verdict_by s algorithm) time a
-
--- the claims hold no number but integers from -2^63 to 2^64 - 1, else `Json`
-abbrev pub AnswersNumbers : List ℕ → Answer → Type 0
-AnswersNumbers text = AnswersBy {E = Data}
-    (ReadsClaimsText text) (IsErrorOfOne input.Claims (ReadsClaimsText text))
-    (λ claims bytes. (has_float claims ≡ false) × (bytes ≡ []))
-    (λ claims k. (has_float claims ≡ true) × (k ≡ kind.Json))
-
--- issued by the time and the leeway, else `ImmatureSignature` (RFC 7519 section 4.1.6)
-abbrev pub AnswersIssuedAt : ℕ → ℕ → ℕ → Answer → Type 0
-AnswersIssuedAt issued_at leeway time (Returns bytes) = (issued_at ≤ time + leeway) × (bytes ≡ [])
-AnswersIssuedAt issued_at leeway time (Refuses k) = (time + leeway < issued_at) × (k ≡ kind.ImmatureSignature)
-AnswersIssuedAt issued_at leeway time (InputError i) = ⊥
 
 -- ---- the message that is signed
 
@@ -161,6 +145,7 @@ LeavesSigned token algorithm message_len status len before after =
 abbrev pub answer_of : CallError → Answer
 answer_of (refused.Input i) = InputError i
 answer_of (refused.Token e) = Refuses (kind_of e)
+answer_of (refused.Further f) = Breaks f
 
 -- the result that a result of bytes is
 abbrev pub answer_in : {V : Type 0} → (V → List ℕ) → Result V CallError → Answer
@@ -172,16 +157,39 @@ abbrev pub status_of : Answer → ℕ
 status_of (Returns bytes) = 0
 status_of (Refuses k) = number k
 status_of (InputError i) = input_status i
+status_of (Breaks f) = further_status f
+
+-- the place of the claim's name in its option, from 1 on, of a further rule that fails
+abbrev pub claim_of : Answer → ℕ
+claim_of (Returns bytes) = 0
+claim_of (Refuses k) = 0
+claim_of (InputError i) = 0
+claim_of (Breaks f) = further_claim f
 
 abbrev pub refusal_status : CallError → ℕ
 refusal_status (refused.Input i) = input_status i
 refusal_status (refused.Token e) = number (kind_of e)
+refusal_status (refused.Further f) = further_status f
 
--- the claims are returned as their text, unless memory ran out, and a refusal is returned unchanged
-abbrev pub HandsOut : {D V : Type 0} → (D → Value) → (V → List ℕ)
-    → Result D Error → Result V CallError → Type 0
-HandsOut claims items (Ok d) (Ok b) =
-    depth (view (claims d)) ≤ max_depth → IsTextOf (items b) (view (claims d))
-HandsOut claims items (Ok d) (Err r) = answer_of r ≡ Refuses kind.OutOfMemory
-HandsOut claims items (Err e) (Ok b) = ⊥
-HandsOut claims items (Err e) (Err r) = answer_of r ≡ Refuses (kind_of e)
+abbrev pub refusal_claim : CallError → ℕ
+refusal_claim (refused.Input i) = 0
+refusal_claim (refused.Token e) = 0
+refusal_claim (refused.Further f) = further_claim f
+
+-- the result with options that were read
+abbrev pub AnswersVerdictOf : AskedOptions → List ℕ → Verdict → ℕ → Answer → Type 0
+AnswersVerdictOf o token v time = AnswersByRules {E = Unit {0}} (λ _. Unit {0}) (λ i. ⊥)
+    (λ _. IsClaimsText (λ t. IsVouched (verdict_call token v time o.usual) v t
+    × FurtherHolds o.further o.usual.leeway time t.payload_value))
+    (λ _. FailsFirst (token_tests (verdict_call token v time o.usual)) decode_order)
+    (λ _ f. (t : Contents) × IsVouched (verdict_call token v time o.usual) v t
+    × (further_fault o.further o.usual.leeway time t.payload_value ≡ Some f))
+
+-- the text of claims that meet the further rules, or the first rule that they do not meet, or memory ran out
+abbrev pub IsCheckedText : List ℕ → Data → AskedOptions → ℕ → Answer → Type 0
+IsCheckedText token claims o time (Returns text) = FurtherHolds o.further o.usual.leeway time claims
+    × ((t : Contents) → Passes (token_tests (header_call token)) payload_bytes_order t → IsJson t.payload_bytes claims
+    → (as_signed : Bool) × IsShownAs t.payload_bytes claims text as_signed)
+IsCheckedText token claims o time (Refuses k) = k ≡ kind.OutOfMemory
+IsCheckedText token claims o time (InputError i) = ⊥
+IsCheckedText token claims o time (Breaks f) = further_fault o.further o.usual.leeway time claims ≡ Some f

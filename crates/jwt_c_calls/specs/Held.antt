@@ -1,20 +1,20 @@
 -- What the calls with handles leave: in the handles, and in numbers and buffers.
-use Rattle.std.specs.Prelude.{◌≡◌, ◌⊎◌, ⊤, ◌≤◌, ◌<◌, ℕ, List, length, Option, Some, None, Result, Ok, Err, MatchOption}
+use Rattle.std.specs.Prelude.{◌≡◌, ◌⊎◌, ℕ, List, [], ◌∷◌, length, Option, Some, None, Result, Ok, Err, MatchOption}
 use Rattle.std.specs.Prelude.{MatchResult, IsSome}
 use Rattle.jwt_base.specs.Kind as kind
-use Rattle.jwt_base.specs.declared.algorithms.AlgorithmFamily.{AlgorithmFamily}
 use Rattle.jwt_keys.specs.declared.jwk.Jwk.{Jwk}
 use Rattle.jwt_params.specs.declared.thumbprints.ThumbprintHash.{ThumbprintHash}
 use Rattle.jwt_verifier.specs.declared.limits.Limits.{Limits}
-use Rattle.jwt_verifier.specs.declared.verifier.Verifier.{Verifier}
-use Rattle.jwt_c_calls.specs.Calls.{Answer, Returns, Leaves}
-use Rattle.jwt_c_calls.specs.Contents.{keys_in, verifier_in, IsSame}
+use Rattle.jwt_c_calls.specs.Acceptors.{Accepting, made_value}
+use Rattle.jwt_c_calls.specs.Calls.{Answer, Leaves}
+use Rattle.jwt_c_calls.specs.Contents.{acceptors_in, keys_in, AreJoined, IsSame}
 use Rattle.jwt_c_calls.specs.KeyForms.{AnswersHashed}
 use Rattle.jwt_c_calls.specs.KeyInfos.{info_at, key_at}
 use Rattle.jwt_c_calls.specs.KeyLists.{KeyList, kept_len, with_more}
 use Rattle.jwt_c_calls.specs.KeySources.{AreKeysOf, AreRefused}
-use Rattle.jwt_c_calls.specs.Status.{number, handle_in_use, no_keys, no_verifier, token_too_long, unknown_number, IsKept}
-use Rattle.jwt_c_calls.specs.Verifiers.{AnswersUntil, IsFamilyFor, IsRefusedWith, IsUnmade, IsVerifierOf, TellsTestOf}
+use Rattle.jwt_c_calls.specs.Status.{number, handle_in_use, no_keys, no_verifier, unknown_number, IsKept}
+use Rattle.jwt_c_calls.specs.Verifiers.{IsUnmade, IsVerifierOf}
+use Rattle.jwt_c_calls.specs.declared.acceptors.Made.{Made}
 use Rattle.jwt_c_calls.specs.declared.content.Content.{Content}
 use Rattle.jwt_c_calls.specs.declared.held_keys.KeyInfo.{KeyInfo}
 use Rattle.jwt_c_calls.specs.declared.key_sources.Source.{Source}
@@ -23,14 +23,14 @@ use Rattle.jwt_c_calls.specs.declared.key_sources.Source.{Source}
 
 -- the keys that the bytes are stand after those that the handle had
 abbrev pub AddsTo : Source → List ℕ → Option Content → Option Content → ℕ → ℕ → Type 0
-AddsTo source bytes before after items kept = (verifier_in before ≡ None)
+AddsTo source bytes before after items kept = (acceptors_in before ≡ None)
     × ((more : KeyList) × AreKeysOf source bytes more × (keys_in after ≡ Some (with_more (keys_in before) more))
     × (items ≡ length more.items) × (kept ≡ kept_len more.items))
 
 -- why none are added: the handle holds a verifier; or the bytes are refused
 abbrev pub IsNotAdded : Source → List ℕ → Option Content → ℕ → Type 0
-IsNotAdded source bytes before status = ((status ≡ no_keys) × IsSome (verifier_in before))
-    ⊎ ((verifier_in before ≡ None) × AreRefused source bytes status)
+IsNotAdded source bytes before status = ((status ≡ no_keys) × IsSome (acceptors_in before))
+    ⊎ ((acceptors_in before ≡ None) × AreRefused source bytes status)
 
 -- a call that adds keys, or leaves the handle as it was
 abbrev pub LeavesAdded : Option Source → List ℕ → Option Content → Option Content → ℕ → ℕ → ℕ → Type 0
@@ -71,7 +71,7 @@ LeavesThumbprint (Some hash) key = LeavesKey (AnswersHashed hash) key
 -- ---- making and sharing
 
 -- the verifier is of the keys of a handle and the options of a text
-abbrev pub IsMadeOf : Option KeyList → List ℕ → Limits → Verifier → Type 0
+abbrev pub IsMadeOf : Option KeyList → List ℕ → Limits → Accepting → Type 0
 IsMadeOf None options limits v = ⊥
 IsMadeOf (Some held) options limits v = IsVerifierOf held options limits v
 
@@ -85,7 +85,7 @@ IsUnmadeOf (Some held) options status = IsUnmade held options status
 abbrev pub LeavesMade : Option KeyList → List ℕ → Limits → Option Content → Option Content → ℕ → Type 0
 LeavesMade held options limits before after status = MatchOption before
     (MatchOption after (IsUnmadeOf held options status)
-    (λ c. (status ≡ 0) × ((v : Verifier) × (verifier_in (Some c) ≡ Some v) × IsMadeOf held options limits v)))
+    (λ c. (status ≡ 0) × ((v : Accepting) × (acceptors_in (Some c) ≡ Some (v ∷ [])) × IsMadeOf held options limits v)))
     (λ _. (status ≡ handle_in_use) × (after ≡ before))
 
 -- The content of another handle, before and after: the same as the first holds, unless memory ran out. If the first holds
@@ -96,45 +96,20 @@ LeavesShared held before after status = MatchOption before
     (λ c. MatchOption after (status ≡ number kind.OutOfMemory) (λ d. (status ≡ 0) × IsSame (Some c) (Some d))))
     (λ _. (status ≡ handle_in_use) × (after ≡ before))
 
--- ---- verifying
-
--- the family whose algorithms count for a token, by the verifier that the handle holds
-abbrev pub IsFamilyIn : Option Content → List ℕ → Option AlgorithmFamily → Type 0
-IsFamilyIn held token f = MatchOption (verifier_in held) ⊤ (λ v. IsFamilyFor v token f)
-
--- the result of a verifier, with the last time at which the token is accepted, or 0 if it is not, and the
--- number of the first failed test, or 0 if none failed
-abbrev pub LeavesBy : Option AlgorithmFamily → Verifier → List ℕ → ℕ → ℕ → ℕ → ℕ → ℕ → List ℕ → List ℕ → Type 0
-LeavesBy f v token time last test status len before after =
-    ((v.limits.max_len < length token) × (last ≡ 0) × (test ≡ 0)
-    × IsKept token_too_long status len before after)
-    ⊎ ((length token ≤ v.limits.max_len)
-    × ((a : Answer) × AnswersUntil f v.keys.keys v.validation token time last a
-    × TellsTestOf f v.keys.keys v.validation token time a test × Leaves a status len before after))
-
--- the result of the verifier that a handle holds
-abbrev pub LeavesUntil : Option AlgorithmFamily → Option Content → List ℕ → ℕ → ℕ → ℕ → ℕ → ℕ → List ℕ → List ℕ → Type 0
-LeavesUntil f held token time last test status len before after = MatchOption (verifier_in held)
-    ((last ≡ 0) × (test ≡ 0) × IsKept no_verifier status len before after)
-    (λ v. LeavesBy f v token time last test status len before after)
+-- The content of a third handle, before and after: the verifiers of the first and then of the second, unless memory ran out.
+abbrev pub LeavesJoined : Option Content → Option Content → Option Content → Option Content → ℕ → Type 0
+LeavesJoined first second before after status = MatchOption before
+    (MatchOption after
+    ((status ≡ number kind.OutOfMemory) ⊎ ((status ≡ no_verifier) × AreJoined (acceptors_in first) (acceptors_in second) None))
+    (λ c. (status ≡ 0) × AreJoined (acceptors_in first) (acceptors_in second) (Some c)))
+    (λ _. (status ≡ handle_in_use) × (after ≡ before))
 
 -- ---- for private clauses
 
 -- the verifier that was made is held, unless memory ran out
-abbrev pub IsHeldAs : Result Verifier ℕ → Option Content → Option Content → ℕ → Type 0
+abbrev pub IsHeldAs : Result Made ℕ → Option Content → Option Content → ℕ → Type 0
 IsHeldAs made before after status = MatchOption before
     (MatchOption after
     (MatchResult made (λ _. status ≡ number kind.OutOfMemory) (λ why. status ≡ why))
-    (λ c. (status ≡ 0) × MatchResult made (λ v. verifier_in (Some c) ≡ Some v) (λ _. ⊥)))
+    (λ c. (status ≡ 0) × MatchResult made (λ m. acceptors_in (Some c) ≡ Some (made_value m ∷ [])) (λ _. ⊥)))
     (λ _. (status ≡ handle_in_use) × (after ≡ before))
-
--- the claims of a token that the held verifier accepts
-abbrev pub AnswersIn : Option AlgorithmFamily → Option Content → List ℕ → ℕ → ℕ → List ℕ → Type 0
-AnswersIn f held token time last text = MatchOption (verifier_in held) ⊥
-    (λ v. (length token ≤ v.limits.max_len)
-    × AnswersUntil f v.keys.keys v.validation token time last (Returns text))
-
--- the status of a token that is refused, and the number of the test
-abbrev pub IsRefusedIn : Option AlgorithmFamily → Option Content → List ℕ → ℕ → ℕ → ℕ → Type 0
-IsRefusedIn f held token time status test = MatchOption (verifier_in held)
-    ((status ≡ no_verifier) × (test ≡ 0)) (λ v. IsRefusedWith f v token time status test)

@@ -8,8 +8,6 @@ use Rattle.serde_json.specs.Find.{as_array, as_object, as_str, get}
 use Rattle.jwt_base.specs.JsonText.{IsJson}
 use Rattle.jwt_base.specs.KindOf.{IsMemory}
 use Rattle.jwt_base.specs.declared.errors.Error.{Error}
-use Rattle.jwt_validation.specs.Options.{Options}
-use Rattle.jwt_validation.specs.OptionsRead as validation
 use Rattle.jwt_c_calls.specs.declared.inputs.Input.{Input}
 use Rattle.jwt_c_calls.specs.declared.inputs.CallError.{CallError}
 use Rattle.jwt_c_calls.specs.declared.inputs.CallError.TheVariants as refused
@@ -42,10 +40,6 @@ empty_member value = if lists_empty (codes "aud") value then Some (codes "aud")
     else (if lists_empty (codes "iss") value then Some (codes "iss")
     else (if option_map_or (is_text []) (get (codes "sub") value) false then Some (codes "sub") else None))
 
--- the value describes these options, and has no such member
-abbrev pub ReadsOptions : Data → Options → Type 0
-ReadsOptions value options = (empty_member value ≡ None) × validation.ReadsOptions value options
-
 -- for a private clause: a value that was read is returned; a text that no value was read from is at fault, unless memory ran out
 abbrev pub IsReadAs : {T : Type 0} → Input → Result T Error → Result T CallError → Type 0
 IsReadAs input (Ok read) (Ok given) = given ≡ read
@@ -53,3 +47,4 @@ IsReadAs input (Ok read) (Err r) = ⊥
 IsReadAs input (Err e) (Ok given) = ⊥
 IsReadAs input (Err e) (Err (refused.Input i)) = (i ≡ input) × (¬ IsMemory e)
 IsReadAs input (Err e) (Err (refused.Token f)) = IsMemory e × IsMemory f
+IsReadAs input (Err e) (Err (refused.Further f)) = ⊥

@@ -1,83 +1,55 @@
--- The results of the calls for C that issue tokens.
-use Rattle.std.specs.Prelude.{◌≡◌, ◌≢◌, ◌⊎◌, ℕ, List, Some}
+-- The result of the call for C that signs with a secret.
+use Rattle.std.specs.Prelude.{◌≡◌, ◌≢◌, ◌⊎◌, ℕ, List, Option, None, Some, MatchOption}
 use Rattle.serde_json.specs.Data.{Data}
-use Rattle.jwt_base.specs.JsonText.{ReadsText}
+use Rattle.jwt_base.specs.Algorithm.{family_of}
 use Rattle.jwt_base.specs.Kind.{Kind}
 use Rattle.jwt_base.specs.Kind as kind
+use Rattle.jwt_base.specs.declared.algorithms.Algorithm.{Algorithm}
 use Rattle.jwt_base.specs.declared.algorithms.AlgorithmFamily.TheVariants.{Hmac}
-use Rattle.jwt_header.specs.Header.{ReadsHeader}
+use Rattle.jwt_crypto.specs.HmacKeys.{HmacSigns}
 use Rattle.jwt_header.specs.declared.header.Header.{Header}
-use Rattle.jwt_keys.specs.Jwk.{ReadsKey}
 use Rattle.jwt_keys.specs.Key.{Key, Plain, key_family}
 use Rattle.jwt_keys.specs.KeyOfJwk.{IsKeyOf}
 use Rattle.jwt_keys.specs.declared.jwk.Jwk.{Jwk}
-use Rattle.jsonwebtoken.specs.ByHmac.{encoding_by_hmac}
-use Rattle.jsonwebtoken.specs.Order.{Passes, FailsFirst}
-use Rattle.jsonwebtoken.specs.Issue.{Issue, IsIssued, Written, encode_order, issue_tests}
-use Rattle.jwt_c_calls.specs.Calls.{Answer, AnswersBy, IsErrorOfOne, IsErrorOfTwo}
-use Rattle.jwt_c_calls.specs.Inputs.{ReadsClaimsText}
+use Rattle.jsonwebtoken.specs.Tests.{AgreesWith}
+use Rattle.jwt_c_calls.specs.BySignature.{IsErrorOfEither, ReadsBoth}
+use Rattle.jwt_c_calls.specs.Calls.{Answer, AnswersBy, Leaves}
+use Rattle.jwt_c_calls.specs.Exact.{IsMessageOf, IsReadBack, IsTokenOf}
+use Rattle.jwt_c_calls.specs.KeyLists.{KeyList, lone_key}
 use Rattle.jwt_c_calls.specs.Keys.{StandsForNoKey}
-use Rattle.jwt_c_calls.specs.declared.inputs.Input.{Input}
-use Rattle.jwt_c_calls.specs.declared.inputs.Input.TheVariants as input
+use Rattle.jwt_c_calls.specs.Status.{no_keys, unfit_key, IsKept}
 
--- ---- tokens
+-- the key is a secret (RFC 7518 section 6.4), and for this algorithm, which is one of HMAC (RFC 7517 section 4.4); and this is
+-- its code of the message (RFC 7518 section 3.2)
+pub record IsSignedBy (jwk : Jwk) (algorithm : Algorithm) (message signature : List ℕ) : Type 0 where
+  pub secret : List ℕ
+  pub key : IsKeyOf jwk.algorithm (Plain Hmac secret)
+  pub family : family_of algorithm ≡ Hmac
+  pub agrees : AgreesWith algorithm jwk
+  pub signed : HmacSigns algorithm (record { family = Hmac; bytes = secret }) message signature
 
--- `encode` with HMAC and the secret, of claims that are written as this value
-abbrev pub hmac_issue : List ℕ → Header → Data → Issue
-hmac_issue secret header value =
-    encoding_by_hmac header (Some value) (record { family = Hmac; bytes = secret })
+-- why it is not signed: the key stands for no key, or for none that is a secret; or it is not for the algorithm
+abbrev pub IsUnsignedBy : Jwk → Algorithm → Kind → Type 0
+IsUnsignedBy jwk algorithm k = StandsForNoKey jwk k
+    ⊎ ((key : Key) × IsKeyOf jwk.algorithm key
+    × (((k ≡ kind.InvalidKeyFormat) × (key_family key ≢ Hmac))
+    ⊎ ((k ≡ kind.InvalidAlgorithm) × ((family_of algorithm ≢ Hmac) ⊎ (¬ AgreesWith algorithm jwk)))))
 
--- the token is issued of values that pass every test of `encode` (RFC 7519 section 7.1)
-abbrev pub IsTokenOf : List ℕ → Header → Data → List ℕ → Type 0
-IsTokenOf secret header value token = let issue = hmac_issue secret header value in
-    (t : Written) × Passes (issue_tests issue) encode_order t × IsIssued issue t token
+-- the token of the header and the payload is signed with the key, and is read back as these bytes
+abbrev pub IsTokenBy : Jwk → List ℕ → List ℕ → Header → Data → List ℕ → Type 0
+IsTokenBy jwk header payload h claims token = (message : List ℕ) × (signature : List ℕ)
+    × IsMessageOf header payload message × IsSignedBy jwk h.alg message signature × IsTokenOf message signature token
+    × IsReadBack header payload message signature token h claims
 
--- a refusal has the kind of the first test of `encode` that fails
-abbrev pub IsNotIssued : List ℕ → Header → Data → Kind → Type 0
-IsNotIssued secret header value = FailsFirst (issue_tests (hmac_issue secret header value)) encode_order
+-- the texts are read before the key, that of the header first
+abbrev pub AnswersSign : Jwk → List ℕ → List ℕ → Answer → Type 0
+AnswersSign jwk header payload = AnswersBy {E = Header × Data}
+    (ReadsBoth header payload) (IsErrorOfEither header payload)
+    (λ e. IsTokenBy jwk header payload e.0 e.1) (λ e. IsUnsignedBy jwk e.0.alg)
 
--- the header's text is read before that of the claims
-abbrev pub AnswersEncode : List ℕ → List ℕ → List ℕ → Answer → Type 0
-AnswersEncode header claims secret = AnswersBy {E = Header × Data}
-    (λ e. ReadsText ReadsHeader header e.0 × ReadsClaimsText claims e.1)
-    (IsErrorOfTwo input.Header (ReadsText ReadsHeader header) input.Claims (ReadsClaimsText claims))
-    (λ e. IsTokenOf secret e.0 e.1) (λ e. IsNotIssued secret e.0 e.1)
-
--- the key is a secret (RFC 7518 section 6.4), and the token is issued with it
-abbrev pub IsTokenBy : Key → Header → Data → List ℕ → Type 0
-IsTokenBy key header value token =
-    (secret : List ℕ) × (key ≡ Plain Hmac secret) × IsTokenOf secret header value token
-
--- a key of another family is refused; with a secret the token is not issued
-abbrev pub IsNotIssuedBy : Key → Header → Data → Kind → Type 0
-IsNotIssuedBy key header value k = ((k ≡ kind.InvalidKeyFormat) × (key_family key ≢ Hmac))
-    ⊎ ((secret : List ℕ) × (key ≡ Plain Hmac secret) × IsNotIssued secret header value k)
-
--- the same with the key that a JSON Web Key stands for (RFC 7518 section 6); one that stands for no key is refused
-abbrev pub IsTokenByJwk : Jwk → Header → Data → List ℕ → Type 0
-IsTokenByJwk jwk header value token =
-    (key : Key) × IsKeyOf jwk.algorithm key × IsTokenBy key header value token
-
-abbrev pub IsNotIssuedByJwk : Jwk → Header → Data → Kind → Type 0
-IsNotIssuedByJwk jwk header value k = StandsForNoKey jwk k
-    ⊎ ((key : Key) × IsKeyOf jwk.algorithm key × IsNotIssuedBy key header value k)
-
--- one of the three texts is at fault, and values are read from the texts before it
-abbrev pub IsErrorOfAny : (header claims key : List ℕ) → Input → Type 0
-IsErrorOfAny header claims key i =
-    IsErrorOfTwo input.Header (ReadsText ReadsHeader header) input.Claims (ReadsClaimsText claims) i
-    ⊎ (((e : Header × Data) × (ReadsText ReadsHeader header e.0 × ReadsClaimsText claims e.1))
-    × IsErrorOfOne input.Key (ReadsText ReadsKey key) i)
-
--- the texts are read in this order
-abbrev pub AnswersEncodeKey : (header claims key : List ℕ) → Answer → Type 0
-AnswersEncodeKey header claims key = AnswersBy {E = (Header × Data) × Jwk}
-    (λ e. (ReadsText ReadsHeader header e.0.0 × ReadsClaimsText claims e.0.1) × ReadsText ReadsKey key e.1)
-    (IsErrorOfAny header claims key)
-    (λ e. IsTokenByJwk e.1 e.0.0 e.0.1) (λ e. IsNotIssuedByJwk e.1 e.0.0 e.0.1)
-
--- for a private clause: the result for a header and claims that were read
-abbrev pub AnswersEncodeText : (key : List ℕ) → Header → Data → Answer → Type 0
-AnswersEncodeText key header value = AnswersBy
-    (ReadsText ReadsKey key) (IsErrorOfOne input.Key (ReadsText ReadsKey key))
-    (λ jwk. IsTokenByJwk jwk header value) (λ jwk. IsNotIssuedByJwk jwk header value)
+-- the result of `jwt_sign`: with the one key of a handle
+abbrev pub LeavesToken : Option KeyList → (header payload : List ℕ) → (status len : ℕ) → (before after : List ℕ) → Type 0
+LeavesToken None header payload status len before after = IsKept no_keys status len before after
+LeavesToken (Some keys) header payload status len before after = MatchOption (lone_key keys)
+    (IsKept unfit_key status len before after)
+    (λ jwk. (a : Answer) × AnswersSign jwk header payload a × Leaves a status len before after)

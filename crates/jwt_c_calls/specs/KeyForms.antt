@@ -12,7 +12,7 @@ use Rattle.jwt_keys.specs.Thumbprint.{digested, thumb_text}
 use Rattle.jwt_keys.specs.declared.jwk.Jwk.{Jwk}
 use Rattle.jwt_params.specs.declared.thumbprints.ThumbprintHash.{ThumbprintHash}
 use Rattle.jwt_params.specs.declared.thumbprints.ThumbprintHash.TheVariants.{SHA256, SHA384, SHA512}
-use Rattle.jwt_c_calls.specs.Calls.{Answer, Returns, Refuses, InputError}
+use Rattle.jwt_c_calls.specs.Calls.{Answer, Returns, Refuses, InputError, Breaks}
 use Rattle.jwt_c_calls.specs.declared.key_forms.KeyForm.{KeyForm}
 use Rattle.jwt_c_calls.specs.declared.key_forms.KeyForm.TheVariants.{Text, Thumbprint}
 
@@ -21,6 +21,7 @@ abbrev pub AnswersText : Jwk → Answer → Type 0
 AnswersText key (Returns text) = HasText ReadsKey key_value normal_key key text
 AnswersText key (Refuses k) = (k ≡ kind.OutOfMemory) ⊎ ((k ≡ kind.Json) × (key_value key ≡ None))
 AnswersText key (InputError i) = ⊥
+AnswersText key (Breaks f) = ⊥
 
 -- the hash of this many bits (RFC 7638 section 3.4)
 abbrev pub hash_numbered : ℕ → Option ThumbprintHash
@@ -39,6 +40,7 @@ AnswersHashed hash key (Returns part) =
     (bytes : List ℕ) × (thumbprint_of hash key ≡ Ok bytes) × IsPart part bytes
 AnswersHashed hash key (Refuses k) = (k ≡ kind.OutOfMemory) ⊎ (thumbprint_of hash key ≡ Err k)
 AnswersHashed hash key (InputError i) = ⊥
+AnswersHashed hash key (Breaks f) = ⊥
 
 abbrev pub AnswersForm : KeyForm → Jwk → Answer → Type 0
 AnswersForm Text key a = AnswersText key a

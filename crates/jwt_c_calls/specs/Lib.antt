@@ -1,5 +1,9 @@
 pub mod Status
 pub mod Inputs
+pub mod JsonTexts
+pub mod AsSigned
+pub mod Asked
+pub mod Acceptors
 pub mod Calls
 pub mod Keys
 pub mod KeyForms
@@ -14,11 +18,12 @@ pub mod BySignature
 pub mod ClaimRules
 pub mod Issued
 pub use Rattle.jwt_base.specs.Kind
-pub mod Secrets
 pub mod Signatures
 pub mod TestNumbers
 pub mod Texts
 pub mod Unverified
 pub mod Verifiers
+pub mod Verdicts
+pub mod Exact
 pub mod Owned
 pub mod Held

@@ -6,21 +6,25 @@ use Rattle.serde_json.specs.Written.{compact_text}
 use Rattle.jwt_base.specs.JsonText.{IsJson}
 use Rattle.jwt_base.specs.Kind as kind
 use Rattle.jwt_validation.specs.Options.{Options}
-use Rattle.jwt_validation.specs.OptionsFault.{HasFault}
-use Rattle.jwt_validation.specs.OptionsRead as validation
+use Rattle.jwt_validation.specs.OptionsFault.{HasFault, Shape, first_malformed}
+use Rattle.jwt_validation.specs.OptionsRead.{ReadsOptions}
 use Rattle.jwt_validation.specs.declared.fault.Form.{Form}
 use Rattle.jwt_validation.specs.declared.fault.Form.TheVariants.{Whole, Flag, OneText, TextList, AlgorithmList, NonEmptyList}
 use Rattle.jwt_validation.specs.declared.fault.Form.TheVariants.{ClaimList}
 use Rattle.jwt_validation.specs.declared.fault.OptionsFault.{OptionsFault}
 use Rattle.jwt_validation.specs.declared.fault.OptionsFault.TheVariants as fault
-use Rattle.jwt_c_calls.specs.Calls.{Answer, Returns, Refuses, InputError, IsTextOf}
-use Rattle.jwt_c_calls.specs.Inputs.{ReadsOptions, empty_member}
+use Rattle.jwt_c_calls.specs.Calls.{Answer, Returns, Refuses, InputError, Breaks}
+use Rattle.jwt_c_calls.specs.JsonTexts.{IsTextOf}
+use Rattle.jwt_further.specs.Further.{FurtherRules, ReadsFurther, further_shapes}
+use Rattle.jwt_c_calls.specs.Asked.{AskedOptions, ReadsAsked, usual_part}
+use Rattle.jwt_c_calls.specs.Inputs.{empty_member}
 
 -- the JSON text of the string (RFC 8259 section 7), which is read back as it; bytes that are not UTF-8 are refused
 abbrev pub AnswersQuoted : List ℕ → Answer → Type 0
 AnswersQuoted text (Returns quoted) = IsUtf8 text × IsTextOf quoted (string text)
 AnswersQuoted text (Refuses k) = (k ≡ kind.OutOfMemory) ⊎ ((k ≡ kind.Utf8) × ¬ IsUtf8 text)
 AnswersQuoted text (InputError i) = ⊥
+AnswersQuoted text (Breaks f) = ⊥
 
 abbrev pub form_text : Form → List ℕ
 form_text Whole = codes " is not a whole number from 0 to 2^64 - 1"
@@ -37,16 +41,23 @@ fault_text fault.NotAnObject = codes "the options are not a JSON object"
 fault_text (fault.Unknown name) = compact_text (string name.now) ++ codes " is not an option"
 fault_text (fault.Malformed name form) = compact_text (string name.now) ++ form_text form
 
+-- the same of a further rule
+abbrev pub shape_text : Shape → List ℕ
+shape_text s = compact_text (string s.name) ++ form_text s.form
+
 -- the member's name as JSON, and that it has or is an empty string
 abbrev pub empty_text : List ℕ → List ℕ
 empty_text name = compact_text (string name) ++ codes " has an empty text"
 
--- nothing, if the value is options; else what keeps it from being options, which an empty string is at last
+-- nothing, if the value is options; else what keeps the options of `jsonwebtoken` from being some, or the first of the further
+-- rules that has another form, or an empty string, which is at fault last
 abbrev pub IsValueFault : Data → List ℕ → Type 0
-IsValueFault value said = (((o : Options) × ReadsOptions value o) × (said ≡ []))
-    ⊎ (((f : OptionsFault) × HasFault value f × (said ≡ fault_text f))
-    ⊎ (((o : Options) × validation.ReadsOptions value o)
-    × ((name : List ℕ) × (empty_member value ≡ Some name) × (said ≡ empty_text name))))
+IsValueFault value said = (((a : AskedOptions) × ReadsAsked value a) × (said ≡ []))
+    ⊎ (((f : OptionsFault) × HasFault (usual_part value) f × (said ≡ fault_text f))
+    ⊎ (((o : Options) × ReadsOptions (usual_part value) o)
+    × (((s : Shape) × (first_malformed value further_shapes ≡ Some s) × (said ≡ shape_text s))
+    ⊎ (((r : FurtherRules) × ReadsFurther value r)
+    × ((name : List ℕ) × (empty_member value ≡ Some name) × (said ≡ empty_text name))))))
 
 -- nothing, if the text describes options; else that it is not JSON, or what keeps its value from being
 -- options
@@ -56,3 +67,4 @@ AnswersFault text (Returns said) =
     ⊎ ((d : Data) × IsJson text d × IsValueFault d said)
 AnswersFault text (Refuses k) = k ≡ kind.OutOfMemory
 AnswersFault text (InputError i) = ⊥
+AnswersFault text (Breaks f) = ⊥

@@ -1,20 +1,16 @@
 -- The results of the calls for C that verify one signature of a message.
-use Rattle.std.specs.Prelude.{◌≡◌, ◌⊎◌, ℕ, List, [], Option, Some, None}
-use Rattle.jwt_base.specs.JsonText.{ReadsText}
+use Rattle.std.specs.Prelude.{◌≡◌, ◌⊎◌, ◌∷◌, ℕ, List, [], Option, Some, None, Result, Ok, Err, Contains, MatchResult}
 use Rattle.jwt_base.specs.Kind.{Kind}
 use Rattle.jwt_base.specs.Kind as kind
 use Rattle.jwt_base.specs.declared.algorithms.Algorithm.{Algorithm}
-use Rattle.jwt_base.specs.declared.algorithms.AlgorithmFamily.TheVariants.{Hmac}
-use Rattle.jwt_keys.specs.Jwk.{ReadsKey}
-use Rattle.jwt_keys.specs.Key.{Key, Plain}
-use Rattle.jwt_keys.specs.KeyOfJwk.{IsKeyOf}
-use Rattle.jwt_keys.specs.declared.jwk.Jwk.{Jwk}
+use Rattle.jwt_keys.specs.Key.{Key}
 use Rattle.jwt_standard.specs.StandardKeys.{verifier_refusal, StandardAccepts}
-use Rattle.jwt_c_calls.specs.Calls.{Answer, Returns, Refuses, InputError, AnswersBy, IsErrorOfOne}
-use Rattle.jwt_c_calls.specs.Keys.{StandsForNoKey}
-use Rattle.jwt_c_calls.specs.declared.inputs.Input.TheVariants as input
-
--- ---- a key
+use Rattle.jwt_verifier.specs.declared.keys.Keys.{Keys}
+use Rattle.jwt_verifier.specs.declared.keys.Keys.TheVariants.{One, Set}
+use Rattle.jwt_c_calls.specs.Acceptors.{Accepting}
+use Rattle.jwt_c_calls.specs.Contents.{acceptors_in}
+use Rattle.jwt_c_calls.specs.Status.{algorithm_numbered, no_verifier, number, unfit_key}
+use Rattle.jwt_c_calls.specs.declared.content.Content.{Content}
 
 -- a verifier is made, and it accepts the signature of the message (RFC 7515 section 5.2, step 8; RFC 7518 section 3)
 abbrev pub IsAcceptedBy : Algorithm → Key → (message signature : List ℕ) → Type 0
@@ -27,39 +23,41 @@ IsRefusedBy algorithm key message signature k = (verifier_refusal algorithm key 
     ⊎ ((verifier_refusal algorithm key ≡ None) × (¬ StandardAccepts algorithm key message signature)
     × (k ≡ kind.InvalidSignature))
 
--- the same with the key that a JSON Web Key stands for (RFC 7518 section 6)
-abbrev pub IsAcceptedByJwk : Algorithm → Jwk → (message signature : List ℕ) → Type 0
-IsAcceptedByJwk algorithm jwk message signature =
-    (key : Key) × IsKeyOf jwk.algorithm key × IsAcceptedBy algorithm key message signature
+-- the one key of a verifier, and the algorithms that it accepts
+pub record OneKey : Type 0 where
+  pub key : Key
+  pub algorithms : List Algorithm
 
--- one that stands for no key is refused
-abbrev pub IsRefusedByJwk : Algorithm → Jwk → (message signature : List ℕ) → Kind → Type 0
-IsRefusedByJwk algorithm jwk message signature k = StandsForNoKey jwk k
-    ⊎ ((key : Key) × IsKeyOf jwk.algorithm key × IsRefusedBy algorithm key message signature k)
+abbrev pub one_key_of : Keys → List Algorithm → Result OneKey ℕ
+one_key_of (One key) algorithms = Ok (record { key = key; algorithms = algorithms })
+one_key_of (Set set) algorithms = Err unfit_key
 
--- ---- the results: no bytes, if the signature is accepted, or the kind of the refusal
+-- that of one verifier; several, and one with a set, have none
+abbrev pub one_key_in : Option (List Accepting) → Result OneKey ℕ
+one_key_in None = Err no_verifier
+one_key_in (Some []) = Err unfit_key
+one_key_in (Some (v ∷ [])) = one_key_of v.verifier.keys.keys v.verifier.validation.algorithms.items
+one_key_in (Some (v ∷ (w ∷ vs))) = Err unfit_key
 
-abbrev pub AnswersVerifyHmacBy : Algorithm → (message signature secret : List ℕ) → Answer → Type 0
-AnswersVerifyHmacBy algorithm message signature secret (Returns bytes) =
-    IsAcceptedBy algorithm (Plain Hmac secret) message signature × (bytes ≡ [])
-AnswersVerifyHmacBy algorithm message signature secret (Refuses k) =
-    (k ≡ kind.OutOfMemory) ⊎ IsRefusedBy algorithm (Plain Hmac secret) message signature k
-AnswersVerifyHmacBy algorithm message signature secret (InputError i) = ⊥
+-- the algorithm is listed, and the key accepts the signature by it
+abbrev pub IsChecked : OneKey → Algorithm → (message signature : List ℕ) → Type 0
+IsChecked one algorithm message signature =
+    Contains one.algorithms algorithm × IsAcceptedBy algorithm one.key message signature
 
--- with a secret, for HMAC; a number of no algorithm is refused
-abbrev pub AnswersVerifyHmac : Option Algorithm → (message signature secret : List ℕ) → Answer → Type 0
-AnswersVerifyHmac None message signature secret a = a ≡ Refuses kind.InvalidAlgorithmName
-AnswersVerifyHmac (Some algorithm) message signature secret a =
-    AnswersVerifyHmacBy algorithm message signature secret a
+-- it is not listed, or the key refuses the signature
+abbrev pub IsUnchecked : OneKey → Algorithm → (message signature : List ℕ) → Kind → Type 0
+IsUnchecked one algorithm message signature k = (k ≡ kind.OutOfMemory)
+    ⊎ (((k ≡ kind.InvalidAlgorithm) × ¬ Contains one.algorithms algorithm)
+    ⊎ (Contains one.algorithms algorithm × IsRefusedBy algorithm one.key message signature k))
 
-abbrev pub AnswersVerifyKeyBy : Algorithm → (message signature key : List ℕ) → Answer → Type 0
-AnswersVerifyKeyBy algorithm message signature key = AnswersBy
-    (ReadsText ReadsKey key) (IsErrorOfOne input.Key (ReadsText ReadsKey key))
-    (λ jwk bytes. IsAcceptedByJwk algorithm jwk message signature × (bytes ≡ []))
-    (λ jwk. IsRefusedByJwk algorithm jwk message signature)
+-- the status of a signature by the algorithm of a number
+abbrev pub ChecksSignature : Option Algorithm → OneKey → (message signature : List ℕ) → ℕ → Type 0
+ChecksSignature None one message signature status = status ≡ number kind.InvalidAlgorithmName
+ChecksSignature (Some algorithm) one message signature status =
+    ((status ≡ 0) × IsChecked one algorithm message signature)
+    ⊎ ((k : Kind) × IsUnchecked one algorithm message signature k × (status ≡ number k))
 
--- with the text of a JSON Web Key (RFC 7517 section 4); a number of no algorithm is refused, before the key is read
-abbrev pub AnswersVerifyKey : Option Algorithm → (message signature key : List ℕ) → Answer → Type 0
-AnswersVerifyKey None message signature key a = a ≡ Refuses kind.InvalidAlgorithmName
-AnswersVerifyKey (Some algorithm) message signature key a =
-    AnswersVerifyKeyBy algorithm message signature key a
+-- the result of `jwt_verifier_check`
+abbrev pub LeavesCheck : Option Content → Option Algorithm → (message signature : List ℕ) → ℕ → Type 0
+LeavesCheck held algorithm message signature status = MatchResult (one_key_in (acceptors_in held))
+    (λ one. ChecksSignature algorithm one message signature status) (λ why. status ≡ why)

@@ -1,6 +1,6 @@
 -- The form of a result for C: a status, a length and the bytes of a buffer.
 use Rattle.std.specs.Prelude.{◌≡◌, ◌≤◌, ◌<◌, ◌+◌, ◌-◌, ◌==◌, ℕ, List, [], ◌∷◌, ◌++◌, length, drop, Option, Some, None}
-use Rattle.std.specs.Prelude.{slice_get, unwrap_or, codes, if◌then◌else◌}
+use Rattle.std.specs.Prelude.{slice_get, unwrap_or, codes, min, if◌then◌else◌}
 use Rattle.std.specs.Str.{bytes_eq}
 use Rattle.jwt_base.specs.Algorithm.{all_algorithms}
 use Rattle.jwt_base.specs.declared.algorithms.Algorithm.{Algorithm}
@@ -10,6 +10,8 @@ use Rattle.jwt_base.specs.Kind.{ExpiredSignature, InvalidIssuer, InvalidAudience
 use Rattle.jwt_base.specs.Kind.{InvalidAlgorithm, MissingAlgorithm, MissingRequiredClaim, InvalidClaimFormat}
 use Rattle.jwt_base.specs.Kind.{InvalidRsaKey, Signing, Provider, Base64, Json, Utf8, OutOfMemory, ClockBeforeEpoch}
 use Rattle.jwt_base.specs.Kind.{InvalidCrit, NoKey}
+use Rattle.jwt_further.specs.declared.FurtherFault.{FurtherFault}
+use Rattle.jwt_further.specs.declared.FurtherFault.TheVariants as fault
 use Rattle.jwt_c_calls.specs.declared.inputs.Input.{Input}
 use Rattle.jwt_c_calls.specs.declared.inputs.Input.TheVariants as input
 
@@ -73,6 +75,23 @@ input_status input.Options = 101
 input_status input.Header = 104
 input_status input.Claims = 105
 input_status input.Key = 106
+input_status input.Path = 101
+
+-- a further rule that fails (RFC 7519 sections 4.1.3 and 4.1.6)
+abbrev pub further_status : FurtherFault → ℕ
+further_status fault.IssuedMalformed = number (InvalidClaimFormat (codes "iat"))
+further_status fault.IssuedLater = number ImmatureSignature
+further_status (fault.Missing at) = 59
+further_status (fault.NotAText at) = 79
+further_status fault.AudienceIsNoText = number (InvalidClaimFormat (codes "aud"))
+
+-- the place of the claim's name in its option, from 1 on; the greatest number of 32 bits for `iat`, and 0 for `aud`
+abbrev pub further_claim : FurtherFault → ℕ
+further_claim fault.IssuedMalformed = 4294967295
+further_claim fault.IssuedLater = 4294967295
+further_claim (fault.Missing at) = min (at + 1) 4294967294
+further_claim (fault.NotAText at) = min (at + 1) 4294967294
+further_claim fault.AudienceIsNoText = 0
 
 -- anyone can sign with a secret, or for a key
 abbrev pub all_zero_secret : ℕ
@@ -212,4 +231,4 @@ algorithm_numbered n = if n == 0 then None else slice_get all_algorithms (n - 1)
 
 -- the version of the library, the `JWT_VERSION` of `packages/c/include/jwtproved.h`
 abbrev pub version : List ℕ
-version = codes "0.1.0"
+version = codes "0.2.0"

@@ -39,3 +39,7 @@ all_tests = HasThreeParts ∷ HeaderIsBase64url ∷ HeaderIsJson ∷ HeaderIsVal
 -- the test of a number
 abbrev pub test_numbered : ℕ → Option Test
 test_numbered n = if n == 0 then None else slice_get all_tests (n - 1)
+
+-- the number of the test of the further rules of options, which comes last
+abbrev pub further_test : ℕ
+further_test = 20

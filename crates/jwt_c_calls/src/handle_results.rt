@@ -5,27 +5,27 @@
 
 ghost use Rattle.std.specs.Prelude.{◌≡◌, None, Some, Option, IfOk, IfErr, OnErr, MatchOption};
 ghost use Rattle.std.specs.Prelude.{length};
-ghost use Rattle.jwt_base.specs.declared.algorithms.AlgorithmFamily.{AlgorithmFamily as Family};
-ghost use Rattle.jwt_c_calls.specs.Contents.{keys_in, verifier_in, IsSame};
-ghost use Rattle.jwt_c_calls.specs.Held.{AddsTo, AnswersIn, IsFamilyIn, IsHeldAs, IsMadeOf};
-ghost use Rattle.jwt_c_calls.specs.Held.{IsNotAdded, IsRefusedIn, IsUnmadeOf, LeavesKey, LeavesShared};
-ghost use Rattle.jwt_c_calls.specs.Held.{info_held, key_held};
+ghost use Rattle.jwt_c_calls.specs.Acceptors.{made_value};
+ghost use Rattle.jwt_c_calls.specs.Contents.{acceptors_in, keys_in, AreJoined, IsSame};
+ghost use Rattle.jwt_c_calls.specs.Held.{AddsTo, IsHeldAs, IsMadeOf, IsNotAdded, IsUnmadeOf};
+ghost use Rattle.jwt_c_calls.specs.Held.{LeavesJoined, LeavesKey, LeavesShared, info_held, key_held};
 ghost use Rattle.jwt_c_calls.specs.KeyForms.{AnswersForm};
 ghost use Rattle.jwt_c_calls.specs.KeyInfos.{key_at};
 ghost use Rattle.jwt_c_calls.specs.KeyLists.{keys_of, kept_len};
-ghost use Rattle.jwt_c_calls.specs.Status.{IsGiven, IsKept};
+ghost use Rattle.jwt_c_calls.specs.Verdicts.{AcceptsIn, RefusesIn};
 ghost use Rattle.jwt_c_calls.specs.Verifiers.{limits_of};
 
+use crate::acceptors::Made;
 use crate::content::Content;
 use crate::handle::Handle;
 use crate::held_keys::{HeldKeys, KeyInfo};
 use crate::key_forms::{KeyForm, form_answer};
 use crate::key_sources::{Source, read_keys};
-use crate::status::{leave, put_bytes};
+use crate::status::leave;
 use crate::status_table::{HANDLE_IN_USE, NO_KEYS, NO_VERIFIER, OK, OUT_OF_MEMORY};
-use crate::verifiers::{Accepted, TokenRefusal, decode_with_expiry, verifier_of};
-use jwt_verifier::Verifier;
-use std::alloc::Global;
+use crate::verdicts::{Accepted, TokenRefusal, decode_by_all, told};
+use crate::verifiers::verifier_of;
+use std::alloc::{AllocError, Global};
 use std::result::Result;
 
 /// How many items some bytes have, and how many of them are kept.
@@ -73,7 +73,7 @@ fn add_to(alloc: Global, source: Source, bytes: &[u8], content: &mut Content) ->
                 Err(_) => Err(OUT_OF_MEMORY.0),
             }
         }
-        Content::Verifier(_) => Err(NO_KEYS.0),
+        Content::Verifier(_, _) => Err(NO_KEYS.0),
     }
 }
 
@@ -126,7 +126,7 @@ fn info_of(content: &Content, at: usize) -> Result<KeyInfo, u32>
 {
     match content {
         Content::Keys(keys) => keys.info_at(at),
-        Content::Verifier(_) => Err(NO_KEYS.0),
+        Content::Verifier(_, _) => Err(NO_KEYS.0),
     }
 }
 
@@ -169,7 +169,7 @@ fn leave_key_of(
 {
     match content {
         Content::Keys(keys) => leave_key_at(alloc, keys, at, form, room, len),
-        Content::Verifier(_) => {
+        Content::Verifier(_, _) => {
             *len = 0;
             NO_KEYS.0
         }
@@ -207,10 +207,10 @@ pub fn verifier_from(
     options: &[u8],
     max_len: usize,
     max_prepared: usize,
-) -> Result<Verifier, u32>
+) -> Result<Made, u32>
     ensures held { keys.new.held ≡ keys.old.held }
-    ensures ok { IfOk result (IsMadeOf (keys_in keys.old.held) options.now
-        (limits_of max_len max_prepared)) }
+    ensures ok { IfOk result (λ m. IsMadeOf (keys_in keys.old.held) options.now
+        (limits_of max_len max_prepared) (made_value m)) }
     ensures err { IfErr result (IsUnmadeOf (keys_in keys.old.held) options.now) }
 {
     match keys.take(alloc) {
@@ -229,20 +229,20 @@ fn verifier_from_content(
     options: &[u8],
     max_len: usize,
     max_prepared: usize,
-) -> Result<Verifier, u32>
-    ensures ok { IfOk result (IsMadeOf (keys_in (Some content.now)) options.now
-        (limits_of max_len max_prepared)) }
+) -> Result<Made, u32>
+    ensures ok { IfOk result (λ m. IsMadeOf (keys_in (Some content.now)) options.now
+        (limits_of max_len max_prepared) (made_value m)) }
     ensures err { IfErr result (IsUnmadeOf (keys_in (Some content.now)) options.now) }
 {
     match content {
         Content::Keys(keys) => verifier_of(alloc, keys, options, max_len, max_prepared),
-        Content::Verifier(_) => Err(NO_KEYS.0),
+        Content::Verifier(_, _) => Err(NO_KEYS.0),
     }
 }
 
 /// Leaves a verifier that was made, or its status, in a handle. One that holds something is
 /// unchanged.
-pub fn write_handle(alloc: Global, made: Result<Verifier, u32>, verifier: &mut Handle) -> u32
+pub fn write_handle(alloc: Global, made: Result<Made, u32>, verifier: &mut Handle) -> u32
     ensures { IsHeldAs made verifier.old.held verifier.new.held result }
 {
     if let Some(held) = verifier.take(alloc) {
@@ -250,7 +250,7 @@ pub fn write_handle(alloc: Global, made: Result<Verifier, u32>, verifier: &mut H
         return HANDLE_IN_USE.0;
     }
     match made {
-        Ok(made) => store(alloc, Content::of_verifier(alloc, made).ok(), verifier),
+        Ok(made) => store(alloc, Content::of_made(alloc, made).ok(), verifier),
         Err(status) => status,
     }
 }
@@ -290,53 +290,80 @@ fn store(alloc: Global, made: Option<Content>, handle: &mut Handle) -> u32
     OUT_OF_MEMORY.0
 }
 
-/// Returns the claims of a token that is verified with what a handle holds, or the reason for which
-/// it is refused.
+/// Leaves one handle of the verifiers of two in a third one, which is unchanged if it holds something.
+pub fn join(alloc: Global, first: &mut Handle, second: &mut Handle, either: &mut Handle) -> u32
+    ensures first { first.new.held ≡ first.old.held }
+    ensures second { second.new.held ≡ second.old.held }
+    ensures either { LeavesJoined first.old.held second.old.held either.old.held either.new.held
+        result }
+{
+    if let Some(held) = either.take(alloc) {
+        *either = Handle::of(held);
+        return HANDLE_IN_USE.0;
+    }
+    match joined(alloc, first, second) {
+        Ok(Some(content)) => store(alloc, Some(content), either),
+        Ok(None) => NO_VERIFIER.0,
+        Err(_) => OUT_OF_MEMORY.0,
+    }
+}
+
+fn joined(
+    alloc: Global,
+    first: &mut Handle,
+    second: &mut Handle,
+) -> Result<Option<Content>, AllocError>
+    ensures first { first.new.held ≡ first.old.held }
+    ensures second { second.new.held ≡ second.old.held }
+    ensures joined { IfOk result (λ c. AreJoined (acceptors_in first.old.held)
+        (acceptors_in second.old.held) c) }
+{
+    match first.take(alloc) {
+        Some(held) => {
+            let joined = joined_to(alloc, &*held, second);
+            *first = Handle::of(held);
+            joined
+        }
+        None => Ok(None),
+    }
+}
+
+fn joined_to(
+    alloc: Global,
+    content: &Content,
+    second: &mut Handle,
+) -> Result<Option<Content>, AllocError>
+    ensures second { second.new.held ≡ second.old.held }
+    ensures joined { IfOk result (λ c. AreJoined (acceptors_in (Some content.now))
+        (acceptors_in second.old.held) c) }
+{
+    match second.take(alloc) {
+        Some(held) => {
+            let joined = content.joined(alloc, &*held);
+            *second = Handle::of(held);
+            joined.map_err(|_| AllocError)
+        }
+        None => Ok(None),
+    }
+}
+
+/// Returns what is said of a token that is verified with what a handle holds.
 pub fn answer_in(
     alloc: Global,
     content: &Content,
     token: &[u8],
     time: u64,
 ) -> Result<Accepted, TokenRefusal>
-    ensures ok { (f : Option Family) → IsFamilyIn (Some content.now) token.now f → IfOk result
-        (λ a. AnswersIn f (Some content.now) token.now time a.last a.text.items) }
-    ensures err { (f : Option Family) → IsFamilyIn (Some content.now) token.now f → IfErr result
-        (λ d. IsRefusedIn f (Some content.now) token.now time d.status d.test) }
+    ensures ok { IfOk result (AcceptsIn (Some content.now) token.now time) }
+    ensures err { IfErr result (RefusesIn (Some content.now) token.now time) }
 {
     match content {
-        Content::Verifier(verifier) => decode_with_expiry(alloc, verifier, token, time),
-        Content::Keys(_) => Err(TokenRefusal {
-            status: NO_VERIFIER.0,
-            test: 0,
-        }),
-    }
-}
-
-/// Leaves the claims of an accepted token and the last time at which it is accepted, or the reason
-/// for which it is refused.
-pub fn write_verdict(
-    answer: Result<Accepted, TokenRefusal>,
-    room: &mut [u8],
-    len: &mut usize,
-    last: &mut u64,
-    test: &mut u32,
-) -> u32
-    ensures given { IfOk answer (λ a. (last.new ≡ a.last) × (test.new ≡ 0)
-        × IsGiven a.text.items result len.new room.old room.new) }
-    ensures kept { IfErr answer (λ d. (last.new ≡ 0) × (test.new ≡ d.test)
-        × IsKept d.status result len.new room.old room.new) }
-{
-    match answer {
-        Ok(accepted) => {
-            *last = accepted.last;
-            *test = 0;
-            put_bytes(accepted.text.as_slice(), room, len)
+        Content::Verifier(first, others) => {
+            match decode_by_all(alloc, first, others.as_slice(), token, time) {
+                Ok(accepted) => Ok(accepted),
+                Err(why) => Err(told(why)),
+            }
         }
-        Err(refusal) => {
-            *last = 0;
-            *test = refusal.test;
-            *len = 0;
-            refusal.status
-        }
+        Content::Keys(_) => Err(TokenRefusal::of(0, NO_VERIFIER.0, 0, 0)),
     }
 }

@@ -5,19 +5,15 @@ ghost use Rattle.std.specs.Prelude.{◌≡◌, ◌↔◌, IsTrue, List, [], Some
 ghost use Rattle.std.specs.Option.{option_map_or};
 ghost use Rattle.serde_json.specs.Data.{Data};
 ghost use Rattle.serde_json.specs.Find.{get};
-ghost use Rattle.serde_json.specs.View.{view};
-ghost use Rattle.jwt_base.specs.JsonText.{ReadsText};
+ghost use Rattle.serde_json.specs.View.{view, items_view};
 ghost use Rattle.jwt_base.specs.Kind as kind;
 ghost use Rattle.jwt_base.specs.KindOf.{kind_of, IsMemory, RefusesAs};
-ghost use Rattle.jwt_validation.specs.Options.{Options};
-ghost use Rattle.jwt_validation.specs.OptionsOf.{options_of};
-ghost use Rattle.jwt_c_calls.specs.Inputs.{IsReadAs, ReadsClaimsText, ReadsOptions, empty_member};
-ghost use Rattle.jwt_c_calls.specs.Inputs.{has_empty_item, is_text, lists_empty};
+ghost use Rattle.jwt_c_calls.specs.Inputs.{IsReadAs, ReadsClaimsText, empty_member};
+ghost use Rattle.jwt_c_calls.specs.Inputs.{has_empty_item, is_text, lists_empty, some_is_text};
 
-use crate::membership::{is_text, some_is_text};
 use jsonwebtoken::errors::{Error, ErrorKind, new_error};
 use jwt_base::serialization::json_value;
-use jwt_validation::Validation;
+use jwt_further::FurtherFault;
 use serde_json::Value;
 use std::alloc::{AllocError, Global};
 use std::result::Result;
@@ -29,6 +25,7 @@ pub enum Input {
     Header,
     Claims,
     Key,
+    Path,
 }
 
 /// The reason for which a call has no result.
@@ -36,6 +33,7 @@ pub enum Input {
 pub enum CallError {
     Input(Input),
     Token(Error),
+    Further(FurtherFault),
 }
 
 impl From<Error> for CallError {
@@ -96,21 +94,6 @@ pub fn read_claims(alloc: Global, text: &[u8]) -> Result<Value, Error>
     Ok(value)
 }
 
-/// Returns the options that a JSON text describes. A text that `Validation::from_slice` refuses, and
-/// one with an empty string in `aud` or `iss` or as `sub`, is refused with `Json`.
-#[inline(always)]
-pub fn read_options(alloc: Global, text: &[u8]) -> Result<Validation, Error>
-    ensures ok { IfOk result (λ v. ReadsText ReadsOptions text.now (options_of v)) }
-    ensures err { IfErr result (RefusesAs kind.Json
-        ((o : Options) → ¬ ReadsText ReadsOptions text.now o)) }
-{
-    let value = json_value(alloc, text)?;
-    match empty_member(&value) {
-        Some(_) => Err(new_error(ErrorKind::Json)),
-        None => Validation::from_value(alloc, &value),
-    }
-}
-
 /// Returns the first of the members `aud`, `iss` and `sub` of options that has or is an empty string.
 pub fn empty_member(options: &Value) -> Option<&'static str>
     ensures { MatchOption result (empty_member (view options.now) ≡ None)
@@ -151,6 +134,26 @@ fn is_empty_subject(options: &Value) -> bool
 {
     match options.get("sub") {
         Some(subject) => is_text(subject, b""),
+        None => false,
+    }
+}
+
+fn some_is_text(items: &[Value], text: &[u8]) -> bool
+    ensures { result ≡ some_is_text text.now (items_view items.now) }
+{
+    for item in items {
+        if is_text(item, text) {
+            return true;
+        }
+    }
+    false
+}
+
+fn is_text(value: &Value, text: &[u8]) -> bool
+    ensures { result ≡ is_text text.now (view value.now) }
+{
+    match value.as_str() {
+        Some(own) => own.as_bytes() == text,
         None => false,
     }
 }

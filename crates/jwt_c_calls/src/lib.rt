@@ -8,21 +8,26 @@
 //! over the texts that C passes. [`status_table`] has the numbers and texts of the statuses, with
 //! which the header, the packages and RULES are compared.
 //!
-//! `numbers_answer(alloc, claims)` reads claims, and refuses those with a number that is not an
-//! integer of 64 bits.
+//! `rules_answer(alloc, claims, options, time)` checks claims by the rules of options, which it reads
+//! first.
 //!
-//! [`handle`] is the struct of a caller that holds keys or a verifier ([`content`]), and
+//! [`handle`] is the struct of a caller that holds keys or verifiers ([`content`]), and
 //! [`handle_results`] has what the calls leave in it. [`key_sources`] reads keys of bytes, [`held_keys`]
 //! tells what each can do, and [`key_forms`] writes one. [`verifiers`] makes a
-//! `jwt_verifier::Verifier` of keys and options, and verifies tokens with it.
+//! `jwt_verifier::Verifier` of keys and options, and [`verdicts`] verifies tokens with one or several.
+//! [`exact`] has the rule of what is signed byte for byte, and [`as_signed`] that of what is handed out.
 //!
 //! [`test_numbers`] has the numbers of the tests of a token, and [`texts`] the text of every number.
 #![tactic(auto)]
 
+pub mod acceptors;
 pub mod answers;
+pub mod as_signed;
+pub mod asked;
 pub mod by_signature;
 pub mod claim_rules;
 pub mod content;
+pub mod exact;
 pub mod handle;
 pub mod handle_results;
 pub mod held_keys;
@@ -34,11 +39,11 @@ pub mod members;
 pub mod membership;
 pub mod options;
 mod raw_box;
-pub mod secrets;
 pub mod signatures;
 pub mod status;
 pub mod status_table;
 pub mod test_numbers;
 pub mod texts;
 pub mod unverified;
+pub mod verdicts;
 pub mod verifiers;

@@ -1,66 +1,61 @@
-//! The result of the call for C that tells whether a member of an object has a text.
+//! The result of the call for C that tells whether a value at a path has a text.
 
-ghost use Rattle.std.specs.Prelude.{◌≡◌, List, IfOk, IfErr};
+ghost use Rattle.std.specs.Prelude.{◌≡◌, IfErr, IfOk, List, ℕ};
 ghost use Rattle.std.specs.List.{list_any};
 ghost use Rattle.std.specs.Str.{bytes_eq};
-ghost use Rattle.serde_json.specs.Data.{Data};
-ghost use Rattle.serde_json.specs.View.{view, items_view};
-ghost use Rattle.jwt_c_calls.specs.Calls.{answer_of, refusal_status};
-ghost use Rattle.jwt_c_calls.specs.Inputs.{ReadsClaimsText, is_text, some_is_text};
-ghost use Rattle.jwt_c_calls.specs.Members.{AnswersNothing};
-ghost use Rattle.jwt_c_calls.specs.Membership.{ChecksMember, SaysMemberHas, has_text};
-ghost use Rattle.jwt_c_calls.specs.Membership.{parts, words};
+ghost use Rattle.json.specs.Json.{Json as JsonData};
+ghost use Rattle.json.specs.Value.{items_view, value_view};
+ghost use Rattle.jwt_c_calls.specs.Calls.{answer_of};
+ghost use Rattle.jwt_c_calls.specs.Members.{AnswersNothing, ReadsAsked};
+ghost use Rattle.jwt_c_calls.specs.Membership.{ChecksMember, SaysPathHas, has_text, is_text, parts};
+ghost use Rattle.jwt_c_calls.specs.Membership.{some_is_text, words};
 
-use crate::inputs::{CallError, Input, read_as, read_claims};
+use crate::inputs::{CallError, Input, read_as};
+use crate::members::{read_object, read_path, value_at};
 use crate::status::status_of;
 use crate::status_table::{NO_MEMBER, OK};
-use serde_json::Value;
+use json::{Scratch, Value as Json};
+use jwt_base::text::Text;
 use std::alloc::Global;
 use std::result::Result;
-use std::str;
 
-/// Returns the status that tells whether the member of this name of the object that a JSON text
+/// Returns the status that tells whether the value at a path of the object that a JSON text
 /// describes is a list that has a text, or a text that has it as a word.
-pub fn member_status(alloc: Global, json: &[u8], name: &[u8], text: &[u8]) -> u32
-    ensures { ChecksMember json.now name.now text.now result }
+pub fn member_status(alloc: Global, json: &[u8], path: &[u8], text: &[u8]) -> u32
+    ensures { ChecksMember json.now path.now text.now result }
 {
-    match member_answer(alloc, json, name, text) {
+    match status_at(alloc, json, path, text) {
         Ok(status) => status,
         Err(refusal) => status_of(&refusal),
     }
 }
 
-fn member_answer(alloc: Global, json: &[u8], name: &[u8], text: &[u8]) -> Result<u32, CallError>
-    ensures ok { IfOk result (λ status. (object : Data) × ReadsClaimsText json.now object
-        × SaysMemberHas name.now text.now object status) }
-    ensures err { IfErr result (λ r. AnswersNothing json.now (answer_of r)) }
+fn status_at(alloc: Global, json: &[u8], path: &[u8], text: &[u8]) -> Result<u32, CallError>
+    ensures ok { IfOk result (λ status. (e : List (List ℕ) × JsonData) × ReadsAsked path.now json.now e
+        × SaysPathHas e.0 text.now e.1 status) }
+    ensures err { IfErr result (λ r. AnswersNothing path.now json.now (answer_of r)) }
 {
-    let object = read_as(Input::Claims, read_claims(alloc, json))?;
-    Ok(object_status(&object, name, text))
+    let names = read_as(Input::Path, read_path(alloc, path))?;
+    let mut scratch = Scratch::new(alloc);
+    let object = read_as(Input::Claims, read_object(alloc, json, &mut scratch))?;
+    Ok(object_status(&object, names.as_slice(), text))
 }
 
-fn object_status(object: &Value, name: &[u8], text: &[u8]) -> u32
-    ensures { SaysMemberHas name.now text.now (view object.now) result }
+fn object_status(object: &Json<'_>, names: &[Text], text: &[u8]) -> u32
+    ensures { SaysPathHas names.now text.now (value_view object.now) result }
 {
-    let Ok(name) = str::from_utf8(name) else {
-        return NO_MEMBER.0;
-    };
-    let Some(value) = object.get(name) else {
-        return NO_MEMBER.0;
-    };
-    if has_text(value, text) {
-        OK.0
-    } else {
-        NO_MEMBER.0
+    match value_at(object, names) {
+        Some(value) if has_text(value, text) => OK.0,
+        _ => NO_MEMBER.0,
     }
 }
 
-fn has_text(value: &Value, text: &[u8]) -> bool
-    ensures { result ≡ has_text text.now (view value.now) }
+fn has_text(value: &Json<'_>, text: &[u8]) -> bool
+    ensures { result ≡ has_text text.now (value_view value.now) }
 {
     match value {
-        Value::String(words) => has_word(words.as_bytes(), text),
-        Value::Array(items) => some_is_text(items.as_slice(), text),
+        Json::String(words) => has_word(words.as_bytes(), text),
+        Json::Array(items) => some_is_text(items.as_slice(), text),
         _ => false,
     }
 }
@@ -77,7 +72,7 @@ fn has_part(text: &[u8], part: &[u8]) -> bool
     text.split(|byte| *byte == b' ').any(|own| own == part)
 }
 
-pub(crate) fn some_is_text(items: &[Value], text: &[u8]) -> bool
+fn some_is_text(items: &[Json<'_>], text: &[u8]) -> bool
     ensures { result ≡ some_is_text text.now (items_view items.now) }
 {
     for item in items {
@@ -88,8 +83,8 @@ pub(crate) fn some_is_text(items: &[Value], text: &[u8]) -> bool
     false
 }
 
-pub(crate) fn is_text(value: &Value, text: &[u8]) -> bool
-    ensures { result ≡ is_text text.now (view value.now) }
+fn is_text(value: &Json<'_>, text: &[u8]) -> bool
+    ensures { result ≡ is_text text.now (value_view value.now) }
 {
     match value.as_str() {
         Some(own) => own.as_bytes() == text,

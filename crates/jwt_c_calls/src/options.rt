@@ -6,13 +6,19 @@ ghost use Rattle.serde_json.specs.Data.{string};
 ghost use Rattle.serde_json.specs.View.{view};
 ghost use Rattle.serde_json.specs.Written.{compact_text};
 ghost use Rattle.jwt_base.specs.Kind as kind;
-ghost use Rattle.jwt_c_calls.specs.Calls.{Returns, IsTextOf, Refuses, answer_of};
+ghost use Rattle.jwt_validation.specs.Options.{Options};
+ghost use Rattle.jwt_validation.specs.OptionsRead.{ReadsOptions};
+ghost use Rattle.jwt_c_calls.specs.Asked.{usual_part};
+ghost use Rattle.jwt_c_calls.specs.Calls.{Returns, Refuses, answer_of};
+ghost use Rattle.jwt_c_calls.specs.JsonTexts.{IsTextOf};
 ghost use Rattle.jwt_c_calls.specs.Options.{AnswersFault, AnswersQuoted, IsValueFault};
 ghost use Rattle.jwt_c_calls.specs.Options.{fault_text, form_text};
 
+use crate::asked::usual_part;
 use crate::inputs::{CallError, empty_member};
 use jsonwebtoken::errors::{ErrorKind, new_error};
 use jwt_base::serialization::json_value;
+use jwt_further::malformed_further;
 use jwt_validation::{Form, OptionsFault, options_fault};
 use serde_json::Value;
 use std::alloc::Global;
@@ -108,11 +114,24 @@ fn value_fault(alloc: Global, value: &Value) -> Result<Vec<u8>, CallError>
     ensures ok { IfOk result (λ b. IsValueFault (view value.now) b.items) }
     ensures err { IfErr result (λ r. answer_of r ≡ Refuses kind.OutOfMemory) }
 {
-    match options_fault(value) {
+    let usual = usual_part(alloc, value)?;
+    match options_fault(&usual) {
         Some(fault) => fault_text(alloc, fault),
-        None => match empty_member(value) {
-            Some(name) => name_and_text(alloc, name, " has an empty text"),
-            None => Ok(Vec::new(alloc)),
-        },
+        None => own_fault(alloc, value),
+    }
+}
+
+// The same of a value without a fault of the options of `jsonwebtoken`.
+fn own_fault(alloc: Global, value: &Value) -> Result<Vec<u8>, CallError>
+    requires { (o : Options) × ReadsOptions (usual_part (view value.now)) o }
+    ensures ok { IfOk result (λ b. IsValueFault (view value.now) b.items) }
+    ensures err { IfErr result (λ r. answer_of r ≡ Refuses kind.OutOfMemory) }
+{
+    if let Some((name, form)) = malformed_further(value) {
+        return name_and_text(alloc, name, form_text(form));
+    }
+    match empty_member(value) {
+        Some(name) => name_and_text(alloc, name, " has an empty text"),
+        None => Ok(Vec::new(alloc)),
     }
 }

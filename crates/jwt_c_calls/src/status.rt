@@ -2,16 +2,17 @@
 
 // Algorithms are numbered from 1, so that a number that nobody set is not one.
 
-ghost use Rattle.std.specs.Prelude.{◌≡◌, ◌≤◌, Some, IfOk, IfErr};
+ghost use Rattle.std.specs.Prelude.{◌≡◌, ◌≤◌, ◌+◌, min, Some, IfOk, IfErr};
 ghost use Rattle.jwt_base.specs.KindOf.{kind_held};
-ghost use Rattle.jwt_c_calls.specs.Calls.{refusal_status};
-ghost use Rattle.jwt_c_calls.specs.Status.{number, input_status, claim_place};
+ghost use Rattle.jwt_c_calls.specs.Calls.{answer_in, claim_of, refusal_claim, refusal_status};
+ghost use Rattle.jwt_c_calls.specs.Status.{number, further_claim, further_status, input_status, claim_place};
 ghost use Rattle.jwt_c_calls.specs.Status.{algorithm_numbered, IsGiven, IsKept};
 
 use crate::inputs::{CallError, Input};
 use crate::status_table::*;
 use jsonwebtoken::Algorithm;
 use jsonwebtoken::errors::ErrorKind;
+use jwt_further::FurtherFault;
 
 /// Returns the status of a refusal of this kind.
 pub fn number_of(kind: &ErrorKind) -> u32
@@ -55,6 +56,62 @@ pub fn status_of(refusal: &CallError) -> u32
     match refusal {
         CallError::Input(input) => input_status(*input),
         CallError::Token(refused) => number_of(refused.kind()),
+        CallError::Further(fault) => further_status(*fault),
+    }
+}
+
+/// Returns the place of the claim that a refusal is about in the option that names it, from 1 on, or
+/// 0 if no option names it.
+pub fn claim_of(refusal: &CallError) -> u32
+    ensures { result ≡ refusal_claim refusal.now }
+{
+    match refusal {
+        CallError::Further(fault) => further_claim(*fault),
+        _ => 0,
+    }
+}
+
+/// Returns the same of a result.
+pub fn claim_in(answer: &Result<Vec<u8>, CallError>) -> u32
+    ensures { result ≡ claim_of (answer_in (λ b. b.items) answer.now) }
+{
+    match answer {
+        Ok(_) => 0,
+        Err(refusal) => claim_of(refusal),
+    }
+}
+
+/// Returns the status of a further rule that fails.
+pub fn further_status(fault: FurtherFault) -> u32
+    ensures { result ≡ further_status fault }
+{
+    match fault {
+        FurtherFault::IssuedLater => IMMATURE_SIGNATURE.0,
+        FurtherFault::Missing(_) => MISSING_CLAIM.0,
+        FurtherFault::IssuedMalformed | FurtherFault::NotAText(_) => MALFORMED_CLAIM.0,
+        FurtherFault::AudienceIsNoText => MALFORMED_AUD.0,
+    }
+}
+
+/// Returns the place of the claim's name in the option of a further rule that fails, from 1 on;
+/// `u32::MAX` for `iat`, and 0 for `aud`.
+pub fn further_claim(fault: FurtherFault) -> u32
+    ensures { result ≡ further_claim fault }
+{
+    match fault {
+        FurtherFault::Missing(at) | FurtherFault::NotAText(at) => place_from_one(at),
+        FurtherFault::IssuedMalformed | FurtherFault::IssuedLater => u32::MAX,
+        FurtherFault::AudienceIsNoText => 0,
+    }
+}
+
+fn place_from_one(at: usize) -> u32
+    ensures { result ≡ min (at + 1) 4294967294 }
+{
+    if at < 4294967294 {
+        at as u32 + 1
+    } else {
+        4294967294
     }
 }
 
@@ -133,6 +190,7 @@ fn input_status(input: Input) -> u32
         Input::Header => BAD_HEADER.0,
         Input::Claims => BAD_CLAIMS.0,
         Input::Key => BAD_KEY.0,
+        Input::Path => BAD_OPTIONS.0,
     }
 }
 

@@ -5,6 +5,9 @@ ghost use Rattle.jwt_c_calls.specs.TestNumbers.{test_number, test_numbered};
 
 use jsonwebtoken::Test;
 
+/// The number of the test of the further rules of options, which comes last.
+pub const FURTHER_TEST: u32 = 20;
+
 /// Returns the number of a test.
 pub(crate) fn test_number(test: Test) -> u32
     ensures { result ≡ test_number test }

@@ -3,21 +3,19 @@
 
 ghost use Rattle.std.specs.Prelude.{◌≡◌, option_map};
 ghost use Rattle.jwt_base.specs.Algorithm.{name_of};
-ghost use Rattle.jsonwebtoken.specs.TestName.{test_name};
 ghost use Rattle.jwt_c_calls.specs.Status.{algorithm_numbered};
-ghost use Rattle.jwt_c_calls.specs.TestNumbers.{test_numbered};
-ghost use Rattle.jwt_c_calls.specs.Texts.{IsNumberOfName, text_numbered, version_numbered};
+ghost use Rattle.jwt_c_calls.specs.Texts.{IsNumberOfName, test_named, text_numbered, version_numbered};
 
 use crate::status::{algorithm_number, numbered_algorithm};
 use crate::status_table::text_of;
-use crate::test_numbers::numbered_test;
+use crate::test_numbers::{FURTHER_TEST, numbered_test};
 use jsonwebtoken::Algorithm;
 use std::result::Result;
 use std::str;
 use std::str::FromStr;
 
 /// The version of the library, the `JWT_VERSION` of `packages/c/include/jwtproved.h`.
-const VERSION: &str = "0.1.0";
+const VERSION: &str = "0.2.0";
 
 /// Returns the number of the algorithm with this name, or 0 for any other name.
 pub fn number_of_name(name: &[u8]) -> u32
@@ -46,9 +44,13 @@ pub fn text_numbered(of: u32, number: u32) -> Option<&'static str>
     }
 }
 
+#[tactic(auto, unfolding(crate::specs::Texts::test_named))]
 fn test_text(number: u32) -> Option<&'static str>
-    ensures { option_map (λ t. t.now) result ≡ option_map test_name (test_numbered number) }
+    ensures { option_map (λ t. t.now) result ≡ test_named number }
 {
+    if number == FURTHER_TEST {
+        return Some("FurtherRulesHold");
+    }
     match numbered_test(number) {
         Some(test) => Some(test.name()),
         None => None,

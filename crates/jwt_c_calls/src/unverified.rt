@@ -2,14 +2,13 @@
 
 ghost use Rattle.std.specs.Prelude.{◌≡◌, ◌⊎◌, IfOk, IfErr};
 ghost use Rattle.jwt_base.specs.KindOf.{kind_of, IsMemory};
-ghost use Rattle.serde_json.specs.View.{view};
 ghost use Rattle.jwt_c_calls.specs.Calls.{Returns, answer_of};
-ghost use Rattle.jwt_c_calls.specs.Unverified.{AnswersPart, HasNoValue, IsValueOfPart, part_numbered};
+ghost use Rattle.jwt_c_calls.specs.Unverified.{AnswersPart, HasNoBytes, IsBytesOfPart, part_numbered};
 
-use crate::inputs::CallError;
-use jsonwebtoken::dangerous::{insecure_decode_claims, insecure_decode_header_value};
-use jsonwebtoken::errors::{Error, ErrorKind, new_error};
-use serde_json::Value;
+use crate::as_signed::show;
+use crate::inputs::{CallError, read_claims};
+use jsonwebtoken::dangerous::{insecure_header_bytes, insecure_payload_bytes};
+use jsonwebtoken::errors::Error;
 use std::alloc::Global;
 use std::result::Result;
 
@@ -37,19 +36,18 @@ pub fn part_answer(alloc: Global, token: &[u8], part: Part) -> Result<Vec<u8>, C
     ensures ok { IfOk result (λ b. AnswersPart part token.now (Returns b.items)) }
     ensures err { IfErr result (λ r. AnswersPart part token.now (answer_of r)) }
 {
-    let value = part_value(alloc, token, part)?;
-    if !value.is_object() {
-        return Err(CallError::Token(new_error(ErrorKind::Json)));
-    }
-    Ok(value.to_vec(alloc)?)
+    let bytes = part_bytes(alloc, token, part)?;
+    let value = read_claims(alloc, bytes.as_slice())?;
+    let shown = show(alloc, bytes, &value)?;
+    Ok(shown.text)
 }
 
-fn part_value(alloc: Global, token: &[u8], part: Part) -> Result<Value, Error>
-    ensures ok { IfOk result (λ v. IsValueOfPart part token.now (view v)) }
-    ensures err { IfErr result (λ e. IsMemory e ⊎ HasNoValue part token.now (kind_of e)) }
+fn part_bytes(alloc: Global, token: &[u8], part: Part) -> Result<Vec<u8>, Error>
+    ensures ok { IfOk result (λ b. IsBytesOfPart part token.now b.items) }
+    ensures err { IfErr result (λ e. IsMemory e ⊎ HasNoBytes part token.now (kind_of e)) }
 {
     match part {
-        Part::Header => insecure_decode_header_value(alloc, token),
-        Part::Payload => insecure_decode_claims::<Value>(alloc, token),
+        Part::Header => insecure_header_bytes(alloc, token),
+        Part::Payload => insecure_payload_bytes(alloc, token),
     }
 }

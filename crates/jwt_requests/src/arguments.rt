@@ -58,7 +58,7 @@ const ALLOW_KEY: Entry = Entry {
 /// Returns the command with all that it takes.
 pub fn command<'a>(alloc: Global) -> Result<Command<'a>, AllocError> {
     let command = Command::new(alloc, "jwt")
-        .version("0.1.0")
+        .version("0.2.0")
         .about("Verify, explain, show and sign JSON Web Tokens")
         .subcommand_required(true)
         .arg_required_else_help(true);

@@ -1,5 +1,5 @@
-/* Verifies tokens with JSON Web Keys: one key, and a key set as an identity provider publishes it, of which some items are skipped, each with
-   a reason. The last line counts. */
+/* Verifies tokens with JSON Web Keys: one key, and a key set as an identity provider publishes it. Some items of a set are skipped, each with a
+   reason. The last line counts. */
 #include "jwtproved.h"
 #include "samples.h"
 #include <stdio.h>
@@ -21,10 +21,10 @@ static const char odd_set[] = "{\"keys\":[{\"kty\":\"RSA\",\"use\":\"enc\",\"n\"
 static const char hs256[] = "eyJhbGciOiAiSFMyNTYiLCAia2lkIjogImEifQ.eyJleHAiOjEzMDA4MTkzODB9"
                             ".eRrCS5DjEElEBX68rPx8LXOQ1KnmkWd3CciR1QXTRZ4";
 static const char zeros_key[] = "{\"kty\":\"oct\",\"kid\":\"a\",\"k\":\"AAAA\"}";
-#define EDDSA_CLAIMS "{\"company\":\"ACME\",\"exp\":2532524891,\"sub\":\"b@b.com\"}"
+#define EDDSA_CLAIMS "{\"sub\":\"b@b.com\",\"company\":\"ACME\",\"exp\":2532524891}"
 
-/* Writes options that list this algorithm and no other. A name that is not the program's own is written by jwt_quote: if it were
-   put between quotation marks as it is, it could end the string, and add options of its own. */
+/* Writes options that list this algorithm and no other. A name that is not the program's own is written by jwt_quote: between
+   quotation marks as it is, it could end the string, and add other options. */
 static enum jwt_status list(const char *algorithm, char *options, size_t size, int *options_len) {
     char quoted[64];
     size_t len;
@@ -45,13 +45,12 @@ static void log_skipped(struct jwt_handle *keys, size_t items) {
 }
 
 /* Returns whether the claims, or the refusal's text, are these. The text is a key, a key set or a file of a key: jwt_keys_add sees which.
-   The options list the algorithm: a key without an alg verifies by all those of its kind. */
+   The options list the algorithm: a key without an alg verifies by each algorithm of its kind. */
 static bool says(const char *token, const char *text, const char *algorithm, const char *wanted) {
     struct jwt_handle keys = JWT_NONE, verifier = JWT_NONE;
     char options[128], buffer[512];
-    size_t len, items, kept;
-    uint64_t last;
-    uint32_t test;
+    size_t items, kept;
+    struct jwt_verdict said = {0};
     int options_len = 0;
     enum jwt_status status = list(algorithm, options, sizeof options, &options_len);
     if (status == JWT_OK) status = jwt_keys_add(&keys, JWT_TEXT, (const uint8_t *)text, strlen(text), &items, &kept);
@@ -60,9 +59,9 @@ static bool says(const char *token, const char *text, const char *algorithm, con
         status = jwt_verifier_new(&keys, options, (size_t)options_len, 0, 0, &verifier);
     }
     if (status == JWT_OK)
-        status =
-            jwt_verifier_decode(&verifier, token, strlen(token), 1300819380, buffer, sizeof buffer, &len, &last, &test);
+        status = jwt_verifier_decode(&verifier, token, strlen(token), 1300819380, buffer, sizeof buffer, &said);
     jwt_free(&keys), jwt_free(&verifier);
+    size_t len = said.len;
     if (status != JWT_OK) jwt_text(JWT_OF_STATUS, status, buffer, sizeof buffer, &len);
     printf("%.*s\n", (int)len, buffer);
     return len == strlen(wanted) && memcmp(buffer, wanted, len) == 0;

@@ -4,7 +4,7 @@
 #define SAMPLES_H
 
 #define PAYLOAD "eyJpc3MiOiJqb2UiLA0KICJleHAiOjEzMDA4MTkzODAsDQogImh0dHA6Ly9leGFtcGxlLmNvbS9pc19yb290Ijp0cnVlfQ"
-#define CLAIMS "{\"exp\":1300819380,\"http://example.com/is_root\":true,\"iss\":\"joe\"}"
+#define CLAIMS "{\"iss\":\"joe\",\r\n \"exp\":1300819380,\r\n \"http://example.com/is_root\":true}"
 
 #define RS256_TOKEN                                                                                                    \
     "eyJhbGciOiJSUzI1NiJ9." PAYLOAD                                                                                    \

@@ -12,8 +12,8 @@ static const char options[] = "{\"algorithms\":[\"HS256\"]}";
 /* A real secret comes from a file, and is random. */
 static const uint8_t secret[] = "0123456789abcdef0123456789abcdef";
 
-/* Prints the test of the token that failed. This is for the log of those who run the verifier: whoever sent the token is told that it
-   was refused, and no more. */
+/* Prints the test of the token that failed. It belongs in the log, and not in the response: the sender only learns that the token was
+   refused. */
 static void print_test(uint32_t test) {
     char name[32];
     size_t len;
@@ -22,23 +22,22 @@ static void print_test(uint32_t test) {
 }
 
 /* Returns whether the claims, or the refusal's text, are these. The length of the secret is tested here (RFC 7518 section 3.2);
-   jwt_keys_add refuses a secret with which anyone can sign. */
+   jwt_keys_add refuses empty and all-zero secrets, and the text of a key. */
 static bool says(const uint8_t *key, size_t key_len, uint64_t now, const char *wanted) {
     struct jwt_handle keys = JWT_NONE, verifier = JWT_NONE;
     char text[512];
-    size_t len, items, kept;
-    uint64_t last;
-    uint32_t test = 0;
+    size_t items, kept;
+    struct jwt_verdict said = {0};
     if (key_len < 32) {
         printf("the secret is too short for HS256\n");
         return strcmp(wanted, "too short") == 0;
     }
     enum jwt_status status = jwt_keys_add(&keys, JWT_SECRET, key, key_len, &items, &kept);
     if (status == JWT_OK) status = jwt_verifier_new(&keys, options, strlen(options), 0, 0, &verifier);
-    if (status == JWT_OK)
-        status = jwt_verifier_decode(&verifier, token, strlen(token), now, text, sizeof text, &len, &last, &test);
+    if (status == JWT_OK) status = jwt_verifier_decode(&verifier, token, strlen(token), now, text, sizeof text, &said);
     jwt_free(&keys), jwt_free(&verifier);
-    print_test(test);
+    print_test(said.test);
+    size_t len = said.len;
     if (status != JWT_OK) jwt_text(JWT_OF_STATUS, status, text, sizeof text, &len);
     printf("%.*s\n", (int)len, text);
     return len == strlen(wanted) && memcmp(text, wanted, len) == 0;

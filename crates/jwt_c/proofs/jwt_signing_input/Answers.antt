@@ -14,6 +14,6 @@ returns-in-Ok c = (
 
 pub returns-in-Err : goal.returns-in-Err
 returns-in-Err c =
-    no_message c.args.header.now c.args.claims.now c.in-Err.refusal 0 _ 0 c.args.room.now c.args.room.now
+    no_message c.args.header.now c.args.payload.now c.in-Err.refusal 0 _ 0 c.args.room.now c.args.room.now
     c.in-Err.ensures.err refl
     (record { number = c.status_of.ensures; none = refl; room = refl })

@@ -1,6 +1,6 @@
 use Rattle.std.proofs.Common.{◌≡◌, drop}
-use Rattle.serde_json.specs.View.{items_view}
-use Rattle.jwt_c_calls.specs.Inputs.{some_is_text}
+use Rattle.json.specs.Value.{items_view}
+use Rattle.jwt_c_calls.specs.Membership.{some_is_text}
 use Rattle.jwt_c_calls.proofs.membership.some_is_text.Given as goal
 
 -- the items that are left decide
