@@ -2,51 +2,20 @@
 from typing import TYPE_CHECKING, Any
 
 from . import api_jwk, api_jwt, jwks_client
-from ._api import PyJWT, decode, decode_complete, encode, get_unverified_header
+from ._api import PyJWT, decode, decode_complete, encode
 from ._client import PyJWKClient
 from ._keys import PyJWK, PyJWKSet, thumbprint
 from ._library import no_fork as _no_fork
-from ._signatures import (
-    SignedPart,
-    SigningInput,
-    decode_by_verdict,
-    ecdsa_signature,
-    encode_by_signature,
-    signed_part,
-    signing_input,
-    verify,
-)
-from ._verifier import Verifier
-from .exceptions import (
-    ClockError,
-    DecodeError,
-    ExpiredSignatureError,
-    ImmatureSignatureError,
-    InvalidAlgorithmError,
-    InvalidAudienceError,
-    InvalidIssuedAtError,
-    InvalidIssuerError,
-    InvalidJTIError,
-    InvalidKeyError,
-    InvalidSignatureError,
-    InvalidSubjectError,
-    InvalidTokenError,
-    MissingCryptographyError,
-    MissingRequiredClaimError,
-    PyJWKClientConnectionError,
-    PyJWKClientError,
-    PyJWKError,
-    PyJWKSetError,
-    PyJWTError,
-    UnknownKeyError,
-    UnusableSetError,
-)
+from ._signatures import SignedPart, SigningInput, decode_by_verdict, ecdsa_signature, encode_by_signature, signed_part, signing_input, verify
+from ._unverified import get_unverified_header
+from ._verifier import ByIssuer, Verifier
+from .exceptions import *
 
 if TYPE_CHECKING:
     from . import algorithms, api_jws, types, utils, warnings
     from .api_jws import PyJWS, get_algorithm_by_name, register_algorithm, unregister_algorithm
 
-__version__ = "0.1.0"
+__version__ = "0.2.0"
 
 # what loads cryptography, or what most programs do not use, is loaded when it is asked for
 _MODULES = ("algorithms", "api_jws", "types", "utils", "warnings")
@@ -65,48 +34,11 @@ def __getattr__(name: str) -> Any:
 
 
 __all__ = [
-    "ClockError",
-    "DecodeError",
-    "ExpiredSignatureError",
-    "ImmatureSignatureError",
-    "InvalidAlgorithmError",
-    "InvalidAudienceError",
-    "InvalidIssuedAtError",
-    "InvalidIssuerError",
-    "InvalidJTIError",
-    "InvalidKeyError",
-    "InvalidSignatureError",
-    "InvalidSubjectError",
-    "InvalidTokenError",
-    "MissingCryptographyError",
-    "MissingRequiredClaimError",
-    "PyJWK",
-    "PyJWKClient",
-    "PyJWKClientConnectionError",
-    "PyJWKClientError",
-    "PyJWKError",
-    "PyJWKSet",
-    "PyJWKSetError",
-    "PyJWS",
-    "PyJWT",
-    "PyJWTError",
-    "SignedPart",
-    "SigningInput",
-    "UnknownKeyError",
-    "UnusableSetError",
-    "Verifier",
-    "decode",
-    "decode_by_verdict",
-    "decode_complete",
-    "ecdsa_signature",
-    "encode",
-    "encode_by_signature",
-    "get_algorithm_by_name",
-    "get_unverified_header",
-    "register_algorithm",
-    "signed_part",
-    "signing_input",
-    "thumbprint",
-    "unregister_algorithm",
-    "verify",
+    "ByIssuer", "ClockError", "DecodeError", "ExpiredSignatureError", "ImmatureSignatureError", "InvalidAlgorithmError",
+    "InvalidAudienceError", "InvalidIssuedAtError", "InvalidIssuerError", "InvalidJTIError", "InvalidKeyError", "InvalidSignatureError",
+    "InvalidSubjectError", "InvalidTokenError", "MissingCryptographyError", "MissingRequiredClaimError", "PyJWK", "PyJWKClient",
+    "PyJWKClientConnectionError", "PyJWKClientError", "PyJWKError", "PyJWKSet", "PyJWKSetError", "PyJWS", "PyJWT", "PyJWTError",
+    "SignedPart", "SigningInput", "UnknownKeyError", "UnusableSetError", "Verifier", "decode", "decode_by_verdict", "decode_complete",
+    "ecdsa_signature", "encode", "encode_by_signature", "get_algorithm_by_name", "get_unverified_header", "register_algorithm",
+    "signed_part", "signing_input", "thumbprint", "unregister_algorithm", "verify",
 ]

@@ -1,51 +1,39 @@
 """`encode`, `decode` and their like, by PyJWT's names."""
+import ctypes
 import json
 import warnings
 from collections.abc import Mapping
 from typing import Any, Never
 
-from . import _refusals, _signing
 from ._encoding import members_of, payload_of, unsignable, written
-from ._keys import Key, PyJWK, SigningKey, bytes_of, is_private, keys_known, keys_of, one_for
-from ._library import ALGORITHMS, Refusal, answer, check, library, number_of, slices
-from ._rules import DEFAULTS, Further, Moment, Names, Rules, arguments_of, check_keywords, exact_str, names_nearest, options_of, rules_of
+from ._keys import Key, PyJWK, SigningKey, keys_known, keys_of
+from ._library import ALGORITHMS, Refusal, check, library, number_of, slices
+from ._refusals import exception_of
+from ._rules import DEFAULTS, UNCHECKED, Moment, Names, Rules, arguments_of, check_keywords, exact_str, names_nearest, options_of, rules_of
+from ._signing import signer_of
 from ._status import Part
-from ._unverified import header_of, octets_of, part_of
-from ._verifier import Checker, Token, checker_of, complete, moment_of, token_of
-from .exceptions import DecodeError, InvalidAlgorithmError, InvalidKeyError, InvalidTokenError
+from ._unverified import Token, complete, part_of, token_of
+from ._verifier import Checker, checker_of, moment_of, read_json
+from .exceptions import DecodeError, InvalidAlgorithmError, InvalidKeyError
 from .types import Listed, Options
 
 # The most checkers that an object finds without reading the arguments again: PyJWT's interface has no object that is made once.
 _CACHE_SIZE = 64
-
-
 _LISTS = frozenset((list, tuple, set, frozenset))
 
 
 def _exact(value: Any) -> Any:
-    """Returns a string, or strings with the type of their list, to compare them. Raises TypeError for any other type, and for a subclass,
-    whose instances may be equal to other strings."""
+    """Returns an argument to compare it: a string as it is, and strings and options with their type. Raises TypeError for any other type, and
+    for a subclass, whose instances may be equal to others."""
     kind = type(value)
-    if kind is str:
+    if kind is str or kind is bool:
         return value
-    if kind not in _LISTS:
+    if kind not in _LISTS and kind is not dict:
         raise TypeError
     for it in value:
         if type(it) is not str:
             raise TypeError
-    return kind, *value
-
-
-def _exact_options(options: Any) -> tuple[Any, ...]:
-    """Returns the names and values of options to compare them, as `_exact` does."""
-    if type(options) is not dict:
-        raise TypeError
-    found: tuple[Any, ...] = ()
-    for name, value in options.items():
-        if type(name) is not str:
-            raise TypeError
-        found += name, value if value is True or value is False else _exact(value)
-    return found
+    return (kind, *value) if kind is not dict else (kind, *value, *map(_exact, value.values()))
 
 
 def _call(
@@ -53,8 +41,7 @@ def _call(
 ) -> tuple[Any, ...] | None:
     """Returns what the checker for these arguments is kept under, or None if they are to be read again.
 
-    Two calls have the same only if all arguments are of the same types and equal. Only types of Python's own count, since instances of
-    a subclass may be equal to others.
+    Two calls have the same only if all arguments are of the same types and equal.
     """
     kind = type(key)
     known = key if kind is str or kind is bytes else keys_known(key)
@@ -64,9 +51,9 @@ def _call(
         return (
             kind,
             known,
-            _exact(algorithms),
             leeway,
-            options if options is None else _exact_options(options),
+            _exact(algorithms),
+            options if options is None else _exact(options),
             audience if audience is None else _exact(audience),
             issuer if issuer is None else _exact(issuer),
             subject if subject is None else _exact(subject),
@@ -95,22 +82,6 @@ def _check_unused(verify: Any, detached_payload: Any, options: Any) -> None:
     if verify is not None and verify != (options or {}).get("verify_signature", True):
         text = "The `verify` argument to `decode` does nothing in PyJWT 2.0 and newer: `verify_signature` in `options` does"
         warnings.warn(text, DeprecationWarning, stacklevel=3)
-
-
-def _by_secret(key: SigningKey, algorithm: str, header: bytes, claims: bytes) -> str:
-    """Returns the token that the library signs with a secret, or with a JSON Web Key of one."""
-    try:
-        keys = keys_of(key)
-    except (InvalidKeyError, TypeError):
-        if is_private(key) or isinstance(key, (str, bytes, bytearray, memoryview)) and b"PRIVATE KEY-----" in bytes_of("key", key):
-            why = f'{algorithm} signs with a secret, and this is a private key: give its algorithm, such as algorithm="RS256"'
-            raise InvalidKeyError(why) from None
-        raise
-    call = library.jwt_encode_hmac if keys.is_secret else library.jwt_encode_key
-    try:
-        return str(answer(call, *slices(header, claims, one_for(keys, algorithm).text())), "utf-8")
-    except Refusal as refusal:
-        raise unsignable(refusal, claims) from None
 
 
 class PyJWT:
@@ -161,7 +132,8 @@ class PyJWT:
             # an option that is left out has a warning each time
             if call is not None and len(given) == len(options or ()):
                 self._keep(call, checker)
-        return checker.decode(token, moment_of(None))
+        claims: dict[str, Any] = read_json(checker.said(token, moment_of(None)))
+        return claims
 
     def _keep(self, call: tuple[Any, ...], checker: Checker) -> None:
         if len(self._kept) >= _CACHE_SIZE:
@@ -195,19 +167,17 @@ class PyJWT:
     @staticmethod
     def _unverified(token: bytes, rules: Rules) -> dict[str, Any]:
         """Returns the claims of a token whose signature is not verified, after the checks that the options name."""
-        unless_named = {name: False for name in DEFAULTS if name.startswith("verify_")}
-        rules = rules._replace(options=tuple({**unless_named, **dict(rules.options)}.items()))
-        further, now = Further(rules), moment_of(None)
+        rules = rules._replace(options=(*{**UNCHECKED, **dict(rules.options)}.items(),))
+        now, claim = moment_of(None), ctypes.c_uint32()
         # PyJWT reads each part
-        header_of(token)
-        octets_of(token.rpartition(b".")[2], "crypto")
+        complete(token, None)
         payload = part_of(token, Part.PAYLOAD)
         try:
-            check(library.jwt_check_claims(*slices(payload, rules.text(())), now))
+            check(library.jwt_check_claims(*slices(payload, rules.text()), now, claim))
         except Refusal as refusal:
-            raise _refusals.exception_of(refusal, token, True, further.unlike) from None
+            refusal.claim = claim.value
+            raise exception_of(refusal, token, rules, True) from None
         claims: dict[str, Any] = json.loads(payload)
-        further.check(claims, now)
         return claims
 
     @names_nearest
@@ -218,32 +188,24 @@ class PyJWT:
         algorithm: str | None = None,
         headers: Mapping[str, Any] | None = None,
         json_encoder: type[json.JSONEncoder] | None = None,
-        sort_headers: bool = False,
+        sort_headers: bool = True,
     ) -> str:
         """Returns the token of the claims, signed with a secret, or with a private key by the package `cryptography`.
 
-        Without an algorithm it is that of a PyJWK, or else HS256. The members of header and claims are in the order of names. `exp`, `nbf`
-        and `iat` are ints of seconds since 1970-01-01 00:00:00 UTC, or datetimes; one without a time zone is UTC.
+        Without an algorithm it is that of a PyJWK, or else HS256. The claims are in the order of the call, and the members of the header
+        in the order of their names, unless `sort_headers` is False. `exp`, `nbf` and `iat` are ints of seconds since
+        1970-01-01 00:00:00 UTC, or datetimes; one without a time zone is UTC.
         """
         claims = payload_of(payload, json_encoder, self._is_lenient)
         members = members_of(algorithm or (key.algorithm_name if isinstance(key, PyJWK) else "HS256"), headers)
         named = members["alg"]
         if not isinstance(named, str) or not number_of(named):
             raise NotImplementedError(f"algorithm is {named!r}, which is not one of {', '.join(ALGORITHMS)}")
-        header = written("headers", members, json_encoder)
-        named = exact_str(named)
-        if named.startswith("HS"):
-            return _by_secret(key, named, header, claims)
-        return _signing.signer_of(key, named).token(header, claims)
-
-
-def get_unverified_header(jwt: Token) -> dict[str, Any]:
-    """Returns the header of a token of any algorithm. Nothing is verified. As in PyJWT, a `kid` must be a string."""
-    header = header_of(token_of("jwt", jwt))
-    kid = header.get("kid")
-    if kid is not None and not isinstance(kid, str):
-        raise InvalidTokenError("Key ID header parameter must be a string")
-    return header
+        header = written("headers", members, json_encoder, sort_headers)
+        try:
+            return signer_of(key, exact_str(named)).signed(header, claims)
+        except Refusal as refusal:
+            raise unsignable(refusal) from None
 
 
 _DECODE = arguments_of(PyJWT.decode)

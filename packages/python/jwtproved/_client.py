@@ -11,11 +11,11 @@ from collections.abc import Mapping
 from typing import TYPE_CHECKING, Any
 from urllib.parse import urlsplit
 
-from ._api import get_unverified_header
 from ._keys import PyJWK, PyJWKSet
 from ._library import no_fork
 from ._refusals import unknown
 from ._rules import exact_str, names_nearest, wrong_type
+from ._unverified import get_unverified_header
 from .exceptions import PyJWKClientConnectionError, PyJWKClientError, PyJWKSetError, UnusableSetError
 
 if TYPE_CHECKING:

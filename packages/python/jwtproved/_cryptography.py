@@ -2,18 +2,15 @@
 
 The library reads public keys alone: it tells for which algorithms a key is, and what more a private one has is read and written here.
 """
-import base64
 import functools
 import json
-import re
 from typing import Any
 
 from ._keys import is_private, keys_of_public
 from ._library import before_fork, no_fork
-from ._rules import Call
-from .exceptions import InvalidKeyError
-
-_BASE64URL = re.compile(r"[A-Za-z0-9_-]*")
+from ._unverified import octets_of
+from .exceptions import DecodeError, InvalidKeyError
+from .utils import base64url_encode, to_base64url_uint
 
 
 def need(what: str) -> None:
@@ -46,65 +43,41 @@ def _sign() -> None:
     Ed25519PrivateKey.generate().sign(b"")
 
 
-def _without_forks(call: Call) -> Call:
-    """Has a fork wait until a call that reads a key has ended."""
-
-    @functools.wraps(call)
-    def held(*arguments: Any) -> Any:
-        with no_fork:
-            return call(*arguments)
-
-    return held  # type: ignore[return-value]
-
-
 def octets(jwk: dict[str, Any], name: str) -> bytes:
     """Returns the bytes of a member that is base64url (RFC 7515 section 2)."""
-    value = jwk.get(name)
-    if not isinstance(value, str) or not _BASE64URL.fullmatch(value) or len(value) % 4 == 1:
-        raise InvalidKeyError(f"{name} of the key is missing, or not base64url")
-    return base64.urlsafe_b64decode(value + "=" * (-len(value) % 4))
+    try:
+        return octets_of(jwk[name].encode(), name)
+    except (KeyError, AttributeError, ValueError, DecodeError):
+        raise InvalidKeyError(f"{name} of the key is missing, or not base64url") from None
 
 
-def number(jwk: dict[str, Any], name: str) -> int:
+def _number(jwk: dict[str, Any], name: str) -> int:
     return int.from_bytes(octets(jwk, name), "big")
 
 
 def _rsa(jwk: dict[str, Any]) -> Any:
     from cryptography.hazmat.primitives.asymmetric import rsa
 
-    public = rsa.RSAPublicNumbers(number(jwk, "e"), number(jwk, "n"))
+    public = rsa.RSAPublicNumbers(_number(jwk, "e"), _number(jwk, "n"))
     if "d" not in jwk:
         return public.public_key()
     if "oth" in jwk:
         raise InvalidKeyError("the key has more than two primes, which no token is signed with")
-    d = number(jwk, "d")
+    d = _number(jwk, "d")
     if any(it in jwk for it in ("p", "q", "dp", "dq", "qi")):
-        p, q, dp, dq, qi = (number(jwk, it) for it in ("p", "q", "dp", "dq", "qi"))
+        p, q, dp, dq, qi = (_number(jwk, it) for it in ("p", "q", "dp", "dq", "qi"))
     else:
         p, q = rsa.rsa_recover_prime_factors(public.n, public.e, d)
         dp, dq, qi = rsa.rsa_crt_dmp1(d, p), rsa.rsa_crt_dmq1(d, q), rsa.rsa_crt_iqmp(p, q)
     return rsa.RSAPrivateNumbers(p, q, d, dp, dq, qi, public).private_key()
 
 
-def _p256(jwk: dict[str, Any]) -> Any:
-    from cryptography.hazmat.primitives.asymmetric.ec import SECP256R1
-
-    return _ec(jwk, SECP256R1())
-
-
-def _p384(jwk: dict[str, Any]) -> Any:
-    from cryptography.hazmat.primitives.asymmetric.ec import SECP384R1
-
-    return _ec(jwk, SECP384R1())
-
-
-def _ec(jwk: dict[str, Any], curve: Any) -> Any:
+def _ec(jwk: dict[str, Any]) -> Any:
     from cryptography.hazmat.primitives.asymmetric import ec
 
-    public = ec.EllipticCurvePublicNumbers(number(jwk, "x"), number(jwk, "y"), curve)
-    if "d" not in jwk:
-        return public.public_key()
-    return ec.EllipticCurvePrivateNumbers(number(jwk, "d"), public).private_key()
+    curve = ec.SECP256R1() if jwk["crv"] == "P-256" else ec.SECP384R1()
+    public = ec.EllipticCurvePublicNumbers(_number(jwk, "x"), _number(jwk, "y"), curve)
+    return ec.EllipticCurvePrivateNumbers(_number(jwk, "d"), public).private_key() if "d" in jwk else public.public_key()
 
 
 def _okp(jwk: dict[str, Any]) -> Any:
@@ -115,31 +88,30 @@ def _okp(jwk: dict[str, Any]) -> Any:
     return ed25519.Ed25519PrivateKey.from_private_bytes(octets(jwk, "d"))
 
 
-# by an algorithm that the key is for
-_READERS = {**{f"{kind}{bits}": _rsa for kind in ("RS", "PS") for bits in (256, 384, 512)}, "ES256": _p256, "ES384": _p384, "EdDSA": _okp}
+_READERS = {"RSA": _rsa, "EC": _ec, "OKP": _okp}
 
 
-@_without_forks
-def of_jwk(jwk: dict[str, Any], algorithm: str) -> Any:
+def of_jwk(jwk: dict[str, Any]) -> Any:
     """Returns the private key of a JSON Web Key that has d (RFC 7518 section 6, RFC 8037 section 2), and of another one the public key.
 
-    The algorithm is one that the key is for.
+    The library has read its public members.
     """
     try:
-        return _READERS[algorithm](jwk)
+        with no_fork:
+            return _READERS[jwk["kty"]](jwk)
     except ValueError:
         # the text of the exception may show the key
         raise InvalidKeyError("the numbers of the key do not fit each other") from None
 
 
-@_without_forks
 def of_pem(text: bytes) -> Any:
     """Returns the private key of a text in PEM."""
     from cryptography.exceptions import UnsupportedAlgorithm
     from cryptography.hazmat.primitives.serialization import load_pem_private_key
 
     try:
-        return load_pem_private_key(text, password=None)
+        with no_fork:
+            return load_pem_private_key(text, password=None)
     except TypeError:
         raise InvalidKeyError("the private key is encrypted: load_pem_private_key of cryptography reads it with its password") from None
     except (ValueError, UnsupportedAlgorithm):
@@ -148,7 +120,6 @@ def of_pem(text: bytes) -> Any:
         raise InvalidKeyError(f"the key {why}") from None
 
 
-@_without_forks
 def of_any_pem(text: bytes) -> Any:
     """Returns the private or public key of a text in PEM, or the public one of a line of SSH."""
     from cryptography.exceptions import UnsupportedAlgorithm
@@ -157,43 +128,28 @@ def of_any_pem(text: bytes) -> Any:
     if b"PRIVATE KEY-----" in text:
         return of_pem(text)
     try:
-        if text.startswith((b"ssh-", b"ecdsa-sha2-")):
-            return load_ssh_public_key(text)
-        return load_pem_public_key(text)
+        with no_fork:
+            return load_ssh_public_key(text) if text.startswith((b"ssh-", b"ecdsa-sha2-")) else load_pem_public_key(text)
     except (ValueError, UnsupportedAlgorithm):
         raise InvalidKeyError("Could not parse the provided public key.") from None
 
 
-def _part(raw: bytes) -> str:
-    return base64.urlsafe_b64encode(raw).rstrip(b"=").decode()
-
-
-def _whole(value: int, size: int | None = None) -> str:
-    return _part(value.to_bytes(size or max(1, (value.bit_length() + 7) // 8), "big"))
-
-
-def _secret_of_ec(key: Any) -> dict[str, Any]:
-    return {"d": _whole(key.private_numbers().private_value, (key.key_size + 7) // 8)}
-
-
-def _secret_of_rsa(key: Any) -> dict[str, Any]:
-    its = key.private_numbers()
-    names = {"d": its.d, "p": its.p, "q": its.q, "dp": its.dmp1, "dq": its.dmq1, "qi": its.iqmp}
-    return {"key_ops": ["sign"], **{name: _whole(it) for name, it in names.items()}}
+def _whole(value: int, bits: int | None = None) -> str:
+    return to_base64url_uint(value, bit_length=bits).decode()
 
 
 def _secret_of(key: Any) -> dict[str, Any]:
     """Returns the members that the JSON Web Key of a private key has besides those of the public one."""
-    from cryptography.hazmat.primitives.asymmetric import ec, ed25519, rsa
+    from cryptography.hazmat.primitives.asymmetric import ed25519, rsa
     from cryptography.hazmat.primitives.serialization import Encoding, NoEncryption, PrivateFormat
 
-    if isinstance(key, rsa.RSAPrivateKey):
-        return _secret_of_rsa(key)
-    if isinstance(key, ec.EllipticCurvePrivateKey):
-        return _secret_of_ec(key)
     if isinstance(key, ed25519.Ed25519PrivateKey):
-        return {"d": _part(key.private_bytes(Encoding.Raw, PrivateFormat.Raw, NoEncryption()))}
-    raise InvalidKeyError("Not a public or private key")
+        return {"d": base64url_encode(key.private_bytes(Encoding.Raw, PrivateFormat.Raw, NoEncryption())).decode()}
+    its = key.private_numbers()
+    if not isinstance(key, rsa.RSAPrivateKey):
+        return {"d": _whole(its.private_value, key.key_size)}
+    names = {"d": its.d, "p": its.p, "q": its.q, "dp": its.dmp1, "dq": its.dmq1, "qi": its.iqmp}
+    return {"key_ops": ["sign"], **{name: _whole(it) for name, it in names.items()}}
 
 
 def jwk_of(key: Any) -> dict[str, Any]:

@@ -1,15 +1,16 @@
-"""Headers and payloads of a caller as JSON."""
+"""Headers and payloads of a caller as JSON, which is signed byte for byte."""
 import calendar
+import ctypes
 import datetime
 import json
 import math
 from collections.abc import Mapping
 from typing import Any
 
-from ._library import Refusal, text_of
+from ._library import ALGORITHMS, Refusal, answer, library, slices, text_of
 from ._rules import exact_number, wrong_type
 from ._status import Status
-from .exceptions import InvalidTokenError
+from .exceptions import InvalidKeyError, InvalidTokenError
 
 Encoder = type[json.JSONEncoder] | None
 
@@ -19,35 +20,34 @@ _UNITS = ((10**3, "milliseconds"), (10**6, "microseconds"), (10**9, "nanoseconds
 # what to write instead of a time of another type
 _INSTEAD = ((datetime.timedelta, "; add it to datetime.datetime.now(datetime.timezone.utc)"), (float, "; int() makes whole seconds of it"))
 
-_UNSIGNABLE: dict[int, str] = {
-    Status.BAD_HEADER: "headers has a member of a wrong type",
-    Status.SIGNING: "signature is not one of this algorithm by its length, or part.message is that of another payload or other headers",
-    Status.INVALID_ALGORITHM: "headers has another alg than the signature",
+_UNSIGNABLE: dict[int, tuple[type[Exception], str]] = {
+    Status.BAD_HEADER: (ValueError, "headers has a member of a wrong type, a number with a fraction, or a name twice"),
+    Status.BAD_CLAIMS: (
+        ValueError,
+        "payload can't be read back: it is no object, has a name twice, such as by the keys 1 and '1', has a lone surrogate or a number beyond"
+        " a double, or is nested too deeply",
+    ),
+    Status.SIGNING: (ValueError, "signature has not the length of its algorithm's signatures, or part.message is none of signing_input"),
+    Status.INVALID_ALGORITHM: (InvalidKeyError, "the key is not for the algorithm of the header"),
+    Status.INVALID_KEY_FORMAT: (InvalidKeyError, "the key is not for the algorithm of the header"),
+    Status.INVALID_SIGNATURE: (
+        InvalidKeyError,
+        "the public half of the key doesn't verify the signature that was made: the key is damaged, or the signer failed",
+    ),
 }
 
 
-def _odd_number(value: Any, at: str) -> str | None:
-    """Returns where a value has a number that is not signed, and the number, or None."""
-    if isinstance(value, float) or isinstance(value, int) and not -(2**63) <= value < 2**64:
-        return f"{at} is {value}"
-    inside = value.items() if isinstance(value, dict) else enumerate(value) if isinstance(value, list) else ()
-    return next(filter(None, (_odd_number(it, f"{at}[{name!r}]") for name, it in inside)), None)
-
-
-def unsignable(refusal: Refusal, claims: bytes) -> ValueError:
+def unsignable(refusal: Refusal) -> Exception:
     """Returns the exception for what can't be issued."""
-    if refusal.status == Status.JSON:
-        try:
-            found = _odd_number(json.loads(claims), "payload")
-        except RecursionError:
-            found = None
-        return ValueError(f"{found or 'a number of payload'}, which is not an integer from -2^63 to 2^64 - 1")
-    return ValueError(_UNSIGNABLE.get(refusal.status) or text_of(refusal.status))
+    kind, text = _UNSIGNABLE.get(refusal.status) or (ValueError, text_of(refusal.status))
+    return kind(text)
 
 
-def header_of(algorithm: Any, headers: Mapping[str, Any] | None, encoder: Encoder = None) -> bytes:
-    """Returns the header of a token that is issued."""
-    return written("headers", members_of(algorithm, headers), encoder)
+def message_of(header: bytes, payload: bytes) -> tuple[str, bytes]:
+    """Returns the algorithm and the message for an external signature. Raises Refusal, or MemoryError."""
+    number = ctypes.c_uint32()
+    message = answer(library.jwt_signing_input, *slices(header, payload), number)
+    return ALGORITHMS[number.value - 1], message
 
 
 def members_of(algorithm: Any, headers: Mapping[str, Any] | None) -> dict[str, Any]:
@@ -92,8 +92,11 @@ def _time(name: str, value: Any, cuts: bool) -> int:
     return int(value)
 
 
-def written(name: str, value: Mapping[str, Any], encoder: Encoder) -> bytes:
+def written(name: str, value: Mapping[str, Any], encoder: Encoder = None, sorts: bool = False) -> bytes:
+    """Returns the JSON of a header or a payload."""
     try:
-        return json.dumps(value, separators=(",", ":"), cls=encoder, allow_nan=False).encode()
+        return json.dumps(value, separators=(",", ":"), cls=encoder, allow_nan=False, sort_keys=sorts).encode()
     except (TypeError, ValueError) as error:
-        raise type(error)(f"{name} can't be written as JSON: {error}") from error
+        instead = "; JSON has no NaN and no Infinity: write None or a string instead" if "float" in str(error) else ""
+        kind = TypeError if isinstance(error, TypeError) else ValueError
+        raise kind(f"{name} can't be written as JSON: {error}{instead}") from error

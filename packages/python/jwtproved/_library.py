@@ -7,11 +7,7 @@ import threading
 from collections.abc import Callable, Iterator
 from typing import Any
 
-from ._status import Of, Source, Status
-
-# the most bytes of prepared keys: the library's default, a bound for sets in `decode`, since fetched sets may have many keys, and so few
-# that no key is prepared, for one token
-PREPARED, PREPARED_OF_SET, PREPARE_NOTHING = 0, 2**20, 1
+from ._status import Of, Status
 
 # A fork waits for the thread that holds it, such as one that imports a module, or reads a key by OpenSSL: the child has no such thread, and
 # would wait for what that thread has locked for ever. A finalizer may verify while its thread holds it.
@@ -29,7 +25,7 @@ def _before_fork() -> None:
 os.register_at_fork(before=_before_fork, after_in_parent=no_fork.release, after_in_child=no_fork.release)
 
 _FILE = "libjwtproved.so"
-PATH = os.environ.get("JWTPROVED_LIBRARY") or os.path.join(os.path.dirname(os.path.abspath(__file__)), _FILE)
+_PATH = os.environ.get("JWTPROVED_LIBRARY") or os.path.join(os.path.dirname(os.path.abspath(__file__)), _FILE)
 
 
 class _Handle(ctypes.Structure):
@@ -38,10 +34,20 @@ class _Handle(ctypes.Structure):
     _fields_ = [("at", ctypes.c_void_p)]
 
 
-class _Info(ctypes.Structure):
+class Info(ctypes.Structure):
     """A struct jwt_key_info."""
 
     _fields_ = [("status", ctypes.c_uint32), ("verifies", ctypes.c_uint32), ("signs", ctypes.c_uint32)]
+
+
+class Verdict(ctypes.Structure):
+    """A struct jwt_verdict."""
+
+    _fields_ = [
+        ("last", ctypes.c_uint64),
+        *((name, ctypes.c_size_t) for name in ("len", "verifier")),
+        *((name, ctypes.c_uint32) for name in ("algorithm", "test", "claim", "has_kid", "as_signed")),
+    ]
 
 
 _BYTES = [ctypes.c_char_p, ctypes.c_size_t]
@@ -49,28 +55,25 @@ _BUFFER = [ctypes.c_char_p, ctypes.c_size_t, ctypes.POINTER(ctypes.c_size_t)]
 _NUMBER = ctypes.POINTER(ctypes.c_uint32)
 _HANDLE = ctypes.POINTER(_Handle)
 _SIZE = ctypes.POINTER(ctypes.c_size_t)
-_ALL = ctypes.c_size_t(-1).value
 _PROTOTYPES: dict[str, list[Any]] = {
     "jwt_keys_add": [_HANDLE, ctypes.c_uint32, *_BYTES, _SIZE, _SIZE],
-    "jwt_keys_info": [_HANDLE, ctypes.c_size_t, ctypes.POINTER(_Info)],
+    "jwt_keys_info": [_HANDLE, ctypes.c_size_t, ctypes.POINTER(Info)],
     "jwt_keys_text": [_HANDLE, ctypes.c_size_t, *_BUFFER],
     "jwt_thumbprint": [_HANDLE, ctypes.c_size_t, ctypes.c_uint32, *_BUFFER],
     "jwt_share": [_HANDLE, _HANDLE],
     "jwt_free": [_HANDLE],
     "jwt_verifier_new": [_HANDLE, *_BYTES, ctypes.c_size_t, ctypes.c_size_t, _HANDLE],
-    "jwt_verifier_decode": [_HANDLE, *_BYTES, ctypes.c_uint64, *_BUFFER, ctypes.POINTER(ctypes.c_uint64), _NUMBER],
-    "jwt_decode_verdict": [*_BYTES, ctypes.c_uint32, *_BYTES, *_BYTES, ctypes.c_bool, *_BYTES, ctypes.c_uint64, *_BUFFER],
-    "jwt_signed_part": [*_BYTES, _NUMBER, ctypes.POINTER(ctypes.c_size_t), *_BUFFER],
-    "jwt_verify_signature_hmac": [*_BYTES, *_BYTES, *_BYTES, ctypes.c_uint32],
-    "jwt_verify_signature_key": [*_BYTES, *_BYTES, *_BYTES, ctypes.c_uint32],
+    "jwt_verifier_or": [_HANDLE, _HANDLE, _HANDLE],
+    "jwt_verifier_decode": [_HANDLE, *_BYTES, ctypes.c_uint64, ctypes.c_char_p, ctypes.c_size_t, ctypes.POINTER(Verdict)],
+    "jwt_verifier_check": [_HANDLE, ctypes.c_uint32, *_BYTES, *_BYTES],
+    "jwt_decode_verdict": [*_BYTES, ctypes.c_uint32, *_BYTES, *_BYTES, ctypes.c_bool, *_BYTES, ctypes.c_uint64, _NUMBER, *_BUFFER],
+    "jwt_signed_part": [*_BYTES, _NUMBER, _SIZE, *_BUFFER],
     "jwt_unverified": [*_BYTES, ctypes.c_uint32, *_BUFFER],
-    "jwt_check_claims": [*_BYTES, *_BYTES, ctypes.c_uint64],
-    "jwt_encode_hmac": [*_BYTES, *_BYTES, *_BYTES, *_BUFFER],
-    "jwt_encode_key": [*_BYTES, *_BYTES, *_BYTES, *_BUFFER],
+    "jwt_check_claims": [*_BYTES, *_BYTES, ctypes.c_uint64, _NUMBER],
+    "jwt_sign": [_HANDLE, *_BYTES, *_BYTES, *_BUFFER],
     "jwt_signing_input": [*_BYTES, *_BYTES, _NUMBER, *_BUFFER],
-    "jwt_encode_signature": [*_BYTES, *_BYTES, ctypes.c_uint32, *_BYTES, *_BYTES, *_BUFFER],
+    "jwt_attach": [_HANDLE, *_BYTES, *_BYTES, *_BUFFER],
     "jwt_ecdsa_signature": [*_BYTES, ctypes.c_uint32, *_BUFFER],
-    "jwt_check_issued_at": [ctypes.c_uint64] * 3,
     "jwt_algorithm": _BYTES,
     "jwt_text": [ctypes.c_uint32, ctypes.c_uint32, *_BUFFER],
 }
@@ -79,7 +82,7 @@ _PROTOTYPES: dict[str, list[Any]] = {
 def _load() -> ctypes.CDLL:
     """Loads the library that JWTPROVED_LIBRARY names, or else the one in this package."""
     try:
-        found = ctypes.CDLL(PATH)
+        found = ctypes.CDLL(_PATH)
         for name, types in _PROTOTYPES.items():
             call = getattr(found, name)
             call.argtypes, call.restype = types, ctypes.c_uint32
@@ -103,19 +106,25 @@ class Handle(_Handle):
 
 
 class Refusal(Exception):
-    """A status other than JWT_OK, and the number of the test of a token that failed, or 0."""
+    """A status other than JWT_OK, with `test`, `claim`, `verifier` and `has_kid` of what a verifier says of a token, or else 0."""
 
-    def __init__(self, status: int, test: int = 0) -> None:
-        super().__init__(status, test)
-        self.status, self.test = status, test
+    def __init__(self, status: int, said: Verdict | None = None) -> None:
+        super().__init__(status)
+        self.status, it = status, said or Verdict()
+        self.test, self.claim, self.verifier, self.has_kid = it.test, it.claim, it.verifier, it.has_kid
 
 
-def check(status: int, test: int = 0) -> None:
-    """Raises Refusal, or MemoryError, for a status other than JWT_OK."""
+def refusal_of(status: int, said: Verdict | None = None) -> Exception:
+    """Returns Refusal, or MemoryError, for a status other than JWT_OK."""
     if status == Status.OUT_OF_MEMORY:
-        raise MemoryError("the library of jwtproved is out of memory")
+        return MemoryError("the library of jwtproved is out of memory")
+    return Refusal(status, said)
+
+
+def check(status: int) -> None:
+    """Raises Refusal, or MemoryError, for a status other than JWT_OK."""
     if status:
-        raise Refusal(status, test)
+        raise refusal_of(status)
 
 
 def answer(call: Any, *arguments: Any) -> bytes:
@@ -124,9 +133,9 @@ def answer(call: Any, *arguments: Any) -> bytes:
     status: int = Status.BUFFER_TOO_SMALL
     while status == Status.BUFFER_TOO_SMALL:
         buffer = ctypes.create_string_buffer(length.value)
-        status = call(*arguments, buffer, len(buffer), ctypes.byref(length))
+        status = call(*arguments, buffer, len(buffer), length)
     check(status)
-    return buffer.raw[: length.value]
+    return ctypes.string_at(buffer, length.value)
 
 
 @functools.cache
@@ -148,9 +157,7 @@ def _algorithms() -> Iterator[str]:
     for number in itertools.count(1):
         try:
             yield _text(Of.OF_ALGORITHM, number)
-        except Refusal as refusal:
-            if refusal.status != Status.UNKNOWN_NUMBER:
-                raise
+        except Refusal:
             return
 
 
@@ -166,62 +173,3 @@ def slices(*texts: bytes) -> list[Any]:
 def number_of(algorithm: str) -> int:
     """Returns the number of an algorithm in jwtproved.h, or 0 if the library has no algorithm of this name."""
     return int(library.jwt_algorithm(*slices(str.encode(algorithm, "utf-8", "surrogatepass"))))
-
-
-@functools.cache
-def _names_of(bits: int) -> tuple[str, ...]:
-    return tuple(name for number, name in enumerate(ALGORITHMS, 1) if bits >> number & 1)
-
-
-class Keys:
-    """A secret, a key or the items of a set, which the library has read once. Any number of threads may use it.
-
-    `given` is what was read. For each item `statuses` has JWT_OK, or why the library skips it, and `verifies` the algorithms that
-    verify with it. `is_usable` tells whether a token can be verified with all of them, of a set by the kid. `skipped` tells users of a
-    set which items are skipped, and why.
-    """
-
-    def __init__(self, source: Source, given: bytes) -> None:
-        """Raises Refusal, or MemoryError."""
-        self.is_secret, self.given, self.is_set, self.skipped = source == Source.SECRET, given, source == Source.SET, ""
-        self._text = given if self.is_secret else None
-        self._handle = Handle()
-        items, kept, info = ctypes.c_size_t(), ctypes.c_size_t(), _Info()
-        check(library.jwt_keys_add(self._handle, source, *slices(given), items, kept))
-        self.statuses: list[int] = []
-        self.verifies: list[tuple[str, ...]] = []
-        for at in range(items.value):
-            check(library.jwt_keys_info(self._handle, at, info))
-            self.statuses.append(info.status)
-            self.verifies.append(_names_of(info.verifies))
-        check(library.jwt_keys_info(self._handle, _ALL, info))
-        self.is_usable = info.verifies != 0
-
-    # No handle may be in two calls at once. So each call with the handle of the keys holds the lock, and is short: a verifier, which may
-    # take long to make, is made of a copy.
-
-    def copy(self) -> Handle:
-        """Returns a handle of the same keys for one caller."""
-        made = Handle()
-        with no_fork:
-            check(library.jwt_share(self._handle, made))
-        return made
-
-    def text(self) -> bytes:
-        """Returns one key as the calls for a signature take it: the bytes of a secret, and else a JSON Web Key."""
-        if self._text is None:
-            with no_fork:
-                self._text = answer(library.jwt_keys_text, self._handle, 0)
-        return self._text
-
-    def thumbprint(self, bits: int) -> str:
-        """Returns the thumbprint (RFC 7638) of the first item. Raises Refusal."""
-        with no_fork:
-            return str(answer(library.jwt_thumbprint, self._handle, 0, bits), "utf-8")
-
-
-def parts(token: bytes) -> tuple[str, bytes, bytes]:
-    """Returns the algorithm that the header names, the message, and the bytes of the signature. Nothing is verified."""
-    number, length = ctypes.c_uint32(), ctypes.c_size_t()
-    signature = answer(library.jwt_signed_part, *slices(token), ctypes.byref(number), ctypes.byref(length))
-    return ALGORITHMS[number.value - 1], token[: length.value], signature

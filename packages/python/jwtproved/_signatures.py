@@ -1,16 +1,17 @@
 """Signatures that are checked or made elsewhere, such as with a key that is kept in a KMS or an HSM."""
 import ctypes
-import json
 from collections.abc import Mapping
 from typing import Any, NamedTuple
 
-from . import _refusals
-from ._encoding import header_of, payload_of, unsignable
-from ._keys import Key, bytes_of, keys_of, one_for, raw_of
-from ._library import ALGORITHMS, Keys, Refusal, answer, check, library, number_of, parts, slices
-from ._rules import Further, Moment, Names, Rules, exact_str, names_nearest, options_of, rules_of, wrong_type
+from ._encoding import members_of, message_of, payload_of, unsignable, written
+from ._handles import Keys
+from ._keys import Key, bytes_of, keys_of, one, one_for, raw_of
+from ._library import ALGORITHMS, Handle, Refusal, answer, library, number_of, slices
+from ._refusals import exception_of
+from ._rules import Moment, Names, exact_str, names_nearest, options_of, rules_of, wrong_type
 from ._status import Status
-from ._verifier import Token, moment_of, token_of
+from ._unverified import Token, token_of
+from ._verifier import moment_of, read_json
 from .types import Listed, Options
 
 
@@ -34,25 +35,12 @@ def signed_part(token: Token) -> SignedPart:
 
     A signature with ES256 or ES384 is two numbers one after the other (RFC 7518 section 3.4).
     """
-    content = token_of("token", token)
+    content, number, length = token_of("token", token), ctypes.c_uint32(), ctypes.c_size_t()
     try:
-        return SignedPart(*parts(content))
+        signature = answer(library.jwt_signed_part, *slices(content), number, length)
     except Refusal as refusal:
-        raise _refusals.exception_of(refusal, content) from None
-
-
-def claims_by_verdict(token: bytes, part: SignedPart, verdict: bool, rules: Rules, now: int) -> dict[str, Any]:
-    """Returns the claims of a token, if the verdict is True and the part is that of the token."""
-    checked = [number_of(part.algorithm), *slices(part.message, part.signature), verdict]
-    further = Further(rules)
-    try:
-        said = answer(library.jwt_decode_verdict, *slices(token), *checked, *slices(rules.text(rules.algorithms)), now)
-    except Refusal as refusal:
-        # the header has been read, so that JSON which is refused is the payload's
-        raise _refusals.exception_of(refusal, token, True, further.unlike) from None
-    claims: dict[str, Any] = json.loads(said)
-    further.check(claims, now)
-    return claims
+        raise exception_of(refusal, content, rules_of()) from None
+    return SignedPart(ALGORITHMS[number.value - 1], content[: length.value], signature)
 
 
 @names_nearest
@@ -82,9 +70,17 @@ def decode_by_verdict(
     rules = rules_of(algorithms, options_of(options), audience, issuer, subject, leeway, understood_crit)
     if not rules.algorithms:
         raise ValueError("algorithms is empty")
-    message, signature = bytes_of("part.message", part.message), raw_of("part.signature", part.signature)
-    checked = SignedPart(_algorithm("part.algorithm", part.algorithm), message, signature)
-    return claims_by_verdict(token_of("token", token), checked, verdict, rules, moment_of(now))
+    number = number_of(_algorithm("part.algorithm", part.algorithm))
+    checked = [number, *slices(bytes_of("part.message", part.message), raw_of("part.signature", part.signature)), verdict]
+    content, claim = token_of("token", token), ctypes.c_uint32()
+    asked = [*slices(content), *checked, *slices(rules.text(rules.algorithms)), moment_of(now), claim]
+    try:
+        claims: dict[str, Any] = read_json(str(answer(library.jwt_decode_verdict, *asked), "utf-8"))
+    except Refusal as refusal:
+        refusal.claim = claim.value
+        # the header has been read, so that JSON which is refused is the payload's
+        raise exception_of(refusal, content, rules, True) from None
+    return claims
 
 
 def verify(message: str | bytes | bytearray | memoryview, signature: bytes, key: Key, algorithm: str) -> bool:
@@ -98,42 +94,33 @@ def verify(message: str | bytes | bytearray | memoryview, signature: bytes, key:
 
 def is_signed(message: bytes, signature: bytes, keys: Keys, algorithm: str) -> bool:
     """Returns whether the library accepts a signature of a message. Raises InvalidKeyError if the key is not for the algorithm."""
-    call = library.jwt_verify_signature_hmac if keys.is_secret else library.jwt_verify_signature_key
-    try:
-        check(call(*slices(message, signature, one_for(keys, algorithm).text()), number_of(algorithm)))
-    except Refusal as refusal:
-        if refusal.status != Status.INVALID_SIGNATURE:
-            raise
-        return False
-    return True
+    return one_for(keys, algorithm).of_one().accepts(algorithm, message, signature)
 
 
 def signing_input(payload: Mapping[str, Any], algorithm: str, headers: Mapping[str, Any] | None = None) -> SigningInput:
     """Returns the message of a token that is to be signed elsewhere. The arguments are those of `encode`."""
-    number = ctypes.c_uint32()
-    texts = header_of(_algorithm("algorithm", algorithm), headers), payload_of(payload)
+    members = members_of(_algorithm("algorithm", algorithm), headers)
     try:
-        message = answer(library.jwt_signing_input, *slices(*texts), ctypes.byref(number))
+        return SigningInput(*message_of(written("headers", members, sorts=True), payload_of(payload)))
     except Refusal as refusal:
-        raise unsignable(refusal, texts[1]) from None
-    return SigningInput(ALGORITHMS[number.value - 1], message)
+        raise unsignable(refusal) from None
 
 
-def encode_by_signature(payload: Mapping[str, Any], part: SigningInput, signature: bytes, headers: Mapping[str, Any] | None = None) -> str:
-    """Returns the token of a payload and headers, with a signature of the message that `signing_input` returned for them.
+def encode_by_signature(part: SigningInput, signature: bytes, key: Key | None = None) -> str:
+    """Returns the token of a message that `signing_input` returned, and of its signature, which the library verifies with the public `key`.
 
-    A signature with ES256 or ES384 is two numbers one after the other, which `ecdsa_signature` makes of one in DER. Whether the signature
-    is one of the message is left to those who verify it.
+    A signature with ES256 or ES384 is two numbers one after the other, which `ecdsa_signature` makes of one in DER. If the key is None,
+    the length of the signature alone is checked.
     """
     if not isinstance(part, SigningInput):
-        raise wrong_type("part", "a SigningInput", part)
-    number = number_of(_algorithm("part.algorithm", part.algorithm))
-    signed = slices(bytes_of("part.message", part.message), raw_of("signature", signature))
-    texts = header_of(part.algorithm, headers), payload_of(payload)
+        raise wrong_type("part", "the SigningInput that signing_input returned", part)
+    message, made = bytes_of("part.message", part.message), raw_of("signature", signature)
     try:
-        return str(answer(library.jwt_encode_signature, *slices(*texts), number, *signed), "utf-8")
+        if key is not None:
+            return one(keys_of(key)).of_one().attached(message, made)
+        return str(answer(library.jwt_attach, Handle(), *slices(message, made)), "utf-8")
     except Refusal as refusal:
-        raise unsignable(refusal, texts[1]) from None
+        raise unsignable(refusal) from None
 
 
 def ecdsa_signature(der: bytes, algorithm: str) -> bytes:

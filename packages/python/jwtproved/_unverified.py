@@ -4,14 +4,29 @@ import json
 from typing import Any
 
 from ._library import Refusal, answer, library, slices
+from ._rules import exact_str
 from ._status import Part, Status
-from .exceptions import DecodeError
+from .exceptions import DecodeError, InvalidTokenError
+
+Token = str | bytes | bytearray | memoryview
 
 _TEXTS: dict[int, str] = {
     Status.INVALID_TOKEN: "Not enough segments",
     Status.BASE64: "Invalid {} padding",
     Status.JSON: "Invalid {} string: must be a json object",
 }
+
+
+def token_of(name: str, value: Token) -> bytes:
+    """Returns the bytes of a token. A lone surrogate becomes bytes that are in no token, since a sender may write any text."""
+    if type(value) is str and value.isascii():
+        return value.encode()
+    if isinstance(value, str):
+        return exact_str(value).encode("utf-8", "surrogatepass")
+    if isinstance(value, (bytes, bytearray, memoryview)):
+        return bytes(value)
+    # as of a cookie that is not there
+    raise DecodeError(f"Invalid token type. Token must be a {bytes}; {name} is {type(value).__name__}")
 
 
 def part_of(token: bytes, part: Part) -> bytes:
@@ -28,6 +43,15 @@ def header_of(token: bytes) -> dict[str, Any]:
     return found
 
 
+def get_unverified_header(jwt: Token) -> dict[str, Any]:
+    """Returns the header of a token of any algorithm. Nothing is verified. As in PyJWT, a `kid` must be a string."""
+    header = header_of(token_of("jwt", jwt))
+    kid = header.get("kid")
+    if kid is not None and not isinstance(kid, str):
+        raise InvalidTokenError("Key ID header parameter must be a string")
+    return header
+
+
 def octets_of(part: bytes, name: str) -> bytes:
     """Returns the bytes of a part of a token, which must be base64url (RFC 7515 section 2). Raises DecodeError.
 
@@ -41,3 +65,8 @@ def octets_of(part: bytes, name: str) -> bytes:
     if base64.urlsafe_b64encode(found).rstrip(b"=") != part:
         raise DecodeError(f"Invalid {name} padding")
     return found
+
+
+def complete(token: bytes, payload: Any) -> dict[str, Any]:
+    """Returns a payload with the header of its token and the bytes of the signature, as PyJWT's `decode_complete` does."""
+    return {"header": header_of(token), "payload": payload, "signature": octets_of(token.rpartition(b".")[2], "crypto")}

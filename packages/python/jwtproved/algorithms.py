@@ -8,8 +8,9 @@ from collections.abc import Callable
 from typing import Any, ClassVar, NoReturn
 
 from . import _cryptography
+from ._handles import Keys
 from ._keys import PyJWK, bytes_of, is_private, keys_of, keys_of_public, one
-from ._library import Keys
+from ._library import ALGORITHMS
 from ._rules import wrong_type
 from ._signatures import is_signed
 from ._signing import pkcs1_signs, signs
@@ -40,8 +41,8 @@ def get_default_algorithms() -> dict[str, "Algorithm"]:
     return found
 
 
-def _object(jwk: str | dict[str, Any], key_type: str, error: str) -> tuple[dict[str, Any], str]:
-    """Returns a JSON Web Key of this type (RFC 7518 section 6.1), and an algorithm that it is for."""
+def _object(jwk: str | dict[str, Any], key_type: str, error: str) -> dict[str, Any]:
+    """Returns a JSON Web Key of this type (RFC 7518 section 6.1), which verifies tokens."""
     try:
         found = json.loads(jwk) if isinstance(jwk, str) else jwk
     except ValueError:
@@ -50,7 +51,8 @@ def _object(jwk: str | dict[str, Any], key_type: str, error: str) -> tuple[dict[
         raise InvalidKeyError("Key is not valid JSON")
     if found.get("kty") != key_type:
         raise InvalidKeyError(error)
-    return found, one(keys_of(found)).verifies[0][0]
+    one(keys_of(found))
+    return found
 
 
 def _written(jwk: dict[str, Any], as_dict: bool) -> Any:
@@ -99,9 +101,9 @@ class Algorithm(ABC):
     def to_jwk(key_obj: Any, as_dict: bool = False) -> Any:
         """Returns a key as a JSON Web Key, which is a text, or a dict."""
 
-    @staticmethod
+    @classmethod
     @abstractmethod
-    def from_jwk(jwk: str | dict[str, Any]) -> Any:
+    def from_jwk(cls, jwk: str | dict[str, Any]) -> Any:
         """Returns the key of a JSON Web Key. Raises InvalidKeyError."""
 
 
@@ -122,21 +124,29 @@ class NoneAlgorithm(Algorithm):
     def to_jwk(key_obj: Any, as_dict: bool = False) -> NoReturn:
         raise NotImplementedError
 
-    @staticmethod
-    def from_jwk(jwk: str | dict[str, Any]) -> NoReturn:
+    @classmethod
+    def from_jwk(cls, jwk: str | dict[str, Any]) -> NoReturn:
         raise NotImplementedError
 
 
-class HMACAlgorithm(Algorithm):
+class _OfDigest(Algorithm):
+    """An algorithm of a digest, whose name ends in the digest's bits."""
+
+    _prefix: str
+
+    def __init__(self, hash_alg: Any) -> None:
+        names = {getattr(self, f"SHA{bits}"): f"{self._prefix}{bits}" for bits in (256, 384, 512)}
+        self.hash_alg, named = hash_alg, names.get(hash_alg)
+        self.name = named if named in ALGORITHMS else None
+
+
+class HMACAlgorithm(_OfDigest):
     """HMAC with SHA-2. A key is a secret, which others must not know."""
 
     SHA256: ClassVar[Any] = hashlib.sha256
     SHA384: ClassVar[Any] = hashlib.sha384
     SHA512: ClassVar[Any] = hashlib.sha512
-
-    def __init__(self, hash_alg: Any) -> None:
-        self.hash_alg = hash_alg
-        self.name = {self.SHA256: "HS256", self.SHA384: "HS384", self.SHA512: "HS512"}.get(hash_alg)
+    _prefix = "HS"
 
     def prepare_key(self, key: Any) -> bytes:
         key = self._of_jwk(key)
@@ -157,16 +167,17 @@ class HMACAlgorithm(Algorithm):
     def to_jwk(key_obj: str | bytes, as_dict: bool = False) -> Any:
         return _written({"kty": "oct", "k": base64url_encode(bytes_of("key_obj", key_obj)).decode()}, as_dict)
 
-    @staticmethod
-    def from_jwk(jwk: str | dict[str, Any]) -> bytes:
-        return _cryptography.octets(_object(jwk, "oct", "Not an HMAC key")[0], "k")
+    @classmethod
+    def from_jwk(cls, jwk: str | dict[str, Any]) -> bytes:
+        return _cryptography.octets(_object(jwk, "oct", "Not an HMAC key"), "k")
 
 
-class _OfCryptography(Algorithm):
+class _OfCryptography(_OfDigest):
     """An algorithm whose keys are those of `cryptography`."""
 
-    # the type of its JSON Web Keys
+    # the type of its JSON Web Keys, and the error for one of another type
     _key_type: str
+    _is_of_another: str
 
     def prepare_key(self, key: Any) -> Any:
         """Returns a key of `cryptography` as it is, and reads a PyJWK, or one in PEM, which is public or private."""
@@ -193,27 +204,21 @@ class _OfCryptography(Algorithm):
     def to_jwk(key_obj: Any, as_dict: bool = False) -> Any:
         return _written(_cryptography.jwk_of(key_obj), as_dict)
 
+    @classmethod
+    def from_jwk(cls, jwk: str | dict[str, Any]) -> Any:
+        return _cryptography.of_jwk(_object(jwk, cls._key_type, cls._is_of_another))
+
 
 class RSAAlgorithm(_OfCryptography):
     """RSASSA-PKCS1-v1_5 with SHA-2. With another digest it signs alone, as for OAuth 1 (RFC 5849 section 3.4.3), and verifies nothing."""
 
-    _key_type = "RSA"
+    _key_type, _is_of_another = "RSA", "Not an RSA key"
     if has_crypto:
         SHA256, SHA384, SHA512 = hashes.SHA256, hashes.SHA384, hashes.SHA512
     _prefix = "RS"
 
-    def __init__(self, hash_alg: Any) -> None:
-        self.hash_alg = hash_alg
-        self.name = {self.SHA256: "256", self.SHA384: "384", self.SHA512: "512"}.get(hash_alg)
-        if self.name is not None:
-            self.name = f"{self._prefix}{self.name}"
-
     def _signs(self, key: Any) -> Callable[[bytes], bytes]:
         return super()._signs(key) if self.name or self._prefix != "RS" else pkcs1_signs(key, self.hash_alg())
-
-    @staticmethod
-    def from_jwk(jwk: str | dict[str, Any]) -> Any:
-        return _cryptography.of_jwk(*_object(jwk, "RSA", "Not an RSA key"))
 
 
 class RSAPSSAlgorithm(RSAAlgorithm):
@@ -225,23 +230,16 @@ class RSAPSSAlgorithm(RSAAlgorithm):
 class ECAlgorithm(_OfCryptography):
     """ECDSA with P-256 and SHA-256, or P-384 and SHA-384."""
 
-    _key_type = "EC"
+    _key_type, _is_of_another = "EC", "Not an Elliptic curve key"
     if has_crypto:
         SHA256, SHA384, SHA512 = hashes.SHA256, hashes.SHA384, hashes.SHA512
-
-    def __init__(self, hash_alg: Any) -> None:
-        self.hash_alg = hash_alg
-        self.name = {self.SHA256: "ES256", self.SHA384: "ES384"}.get(hash_alg)
-
-    @staticmethod
-    def from_jwk(jwk: str | dict[str, Any]) -> Any:
-        return _cryptography.of_jwk(*_object(jwk, "EC", "Not an Elliptic curve key"))
+    _prefix = "ES"
 
 
 class OKPAlgorithm(_OfCryptography):
     """EdDSA with Ed25519."""
 
-    _key_type, name = "OKP", "EdDSA"
+    _key_type, _is_of_another, name = "OKP", "Not an Octet Key Pair", "EdDSA"
 
     def __init__(self, **kwargs: Any) -> None:
         pass
@@ -250,6 +248,3 @@ class OKPAlgorithm(_OfCryptography):
     def to_jwk(key: Any, as_dict: bool = False) -> Any:
         return _written(_cryptography.jwk_of(key), as_dict)
 
-    @staticmethod
-    def from_jwk(jwk: str | dict[str, Any]) -> Any:
-        return _cryptography.of_jwk(*_object(jwk, "OKP", "Not an Octet Key Pair"))

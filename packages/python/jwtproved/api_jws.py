@@ -3,14 +3,12 @@ import json
 from typing import Any, Never
 
 from . import _refusals
-from ._api import get_unverified_header
 from ._encoding import members_of
 from ._keys import Key, PyJWK, SigningKey, keys_of
 from ._library import ALGORITHMS
 from ._rules import arguments_of, check_keywords, listed, names_nearest, options_of, wrong_type
 from ._signatures import is_signed, signed_part
-from ._unverified import header_of, octets_of
-from ._verifier import Token, token_of
+from ._unverified import Token, get_unverified_header, header_of, octets_of, token_of
 from .algorithms import Algorithm, get_default_algorithms
 from .exceptions import DecodeError, InvalidAlgorithmError, InvalidKeyError, InvalidSignatureError
 from .types import Listed, Options

@@ -8,8 +8,8 @@ class PyJWTError(Exception):
 class InvalidTokenError(PyJWTError):
     """The token is refused. `failed_test` is the name of the test of the library that failed (docs/RULES.md), for a log.
 
-    It is None if this package's own code rejects the token: PyJWKClient, PyJWS, a PyJWK that fits no algorithm of the list, or a check of
-    `iat`, `jti`, `strict_aud`, a `sub` that is no string, or a required claim other than `exp`, `nbf`, `aud`, `iss` and `sub`.
+    It is None if PyJWKClient or PyJWS rejects the token, or a PyJWK fits no algorithm of the list, and in `decode_by_verdict` and
+    with `verify_signature` False.
     """
 
     failed_test: str | None = None
@@ -36,7 +36,7 @@ class ImmatureSignatureError(InvalidTokenError):
 
 
 class InvalidIssuedAtError(InvalidTokenError):
-    """The `iat` is not a whole number."""
+    """The `iat` is not a number."""
 
 
 class InvalidAudienceError(InvalidTokenError):

@@ -2,6 +2,7 @@
 import base64
 import contextlib
 import importlib
+import json
 import logging
 import os
 import sys
@@ -11,7 +12,7 @@ if "by-ctypes" in sys.argv:
     sys.modules["jwtproved._fast"] = None
 
 import jwtproved
-from jwtproved import _api, _keys, _library, _verifier
+from jwtproved import _api, _handles, _keys, _library, _verifier
 
 TOP = os.path.dirname(os.path.dirname(os.path.dirname(os.path.dirname(os.path.abspath(__file__)))))
 sys.path.append(f"{TOP}/tests")
@@ -90,6 +91,28 @@ def forget():
     _api._global._kept.clear()
     for it in (_verifier.checker_of, _keys._of_text, _keys._of_file, _keys._of_jwk, _keys._of_set, _keys._of_json):
         it.cache_clear()
+
+
+@contextlib.contextmanager
+def counted():
+    """Gives the verifiers of the library that are made in the meantime, as algorithms and the bytes of prepared keys, and the tokens that
+    verifiers are given."""
+    made, given = [], []
+    verifier, decode = _handles.Keys.verifier, _handles.Handles.decode
+
+    def makes(keys, options, longest=0, prepared=0):
+        made.append((json.loads(options)["algorithms"], prepared))
+        return verifier(keys, options, longest, prepared)
+
+    def decodes(handles, token, now):
+        given.append(token)
+        return decode(handles, token, now)
+
+    _handles.Keys.verifier, _handles.Handles.decode = makes, decodes
+    try:
+        yield made, given
+    finally:
+        _handles.Keys.verifier, _handles.Handles.decode = verifier, decode
 
 
 @contextlib.contextmanager

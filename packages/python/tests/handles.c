@@ -106,20 +106,46 @@ enum jwt_status jwt_keys_text(struct jwt_handle *keys, size_t at, char *buffer, 
     return say("{}", 2, buffer, buffer_len, len);
 }
 
+enum jwt_status jwt_sign(struct jwt_handle *keys, const char *header, size_t header_len, const char *payload,
+                         size_t payload_len, char *buffer, size_t buffer_len, size_t *len) {
+    (void)header, (void)header_len, (void)payload, (void)payload_len;
+    use(keys);
+    return say("a.b.c", 5, buffer, buffer_len, len);
+}
+
 enum jwt_status jwt_verifier_decode(struct jwt_handle *verifier, const char *token, size_t token_len, uint64_t now,
-                                    char *buffer, size_t buffer_len, size_t *len, uint64_t *last, uint32_t *test) {
-    enum jwt_status status = token_len == 5 ? JWT_OUT_OF_MEMORY : JWT_INVALID_SIGNATURE;
+                                    char *buffer, size_t buffer_len, struct jwt_verdict *said) {
+    enum jwt_status status = token_len == 5 ? JWT_OUT_OF_MEMORY : JWT_MISSING_CLAIM;
 
     (void)token;
     enter(verifier);
     usleep(200);
-    *len = 0;
-    *last = now;
-    *test = JWT_TEST_SIGNATURE_IS_ACCEPTED;
+    *said = (struct jwt_verdict){.last = now, .test = JWT_TEST_FURTHER_RULES_HOLD, .claim = 7};
     if (token_len == 2 || token_len == 4) {
-        *test = 0;
-        status = say("{\"a\":1}", token_len == 2 ? 7 : LONG_CLAIMS, buffer, buffer_len, len);
+        said->test = said->claim = 0;
+        status = say("{\"a\":1}", token_len == 2 ? 7 : LONG_CLAIMS, buffer, buffer_len, &said->len);
     }
     leave(verifier);
     return status;
+}
+
+enum jwt_status jwt_verifier_check(struct jwt_handle *verifier, uint32_t algorithm, const uint8_t *message,
+                                   size_t message_len, const uint8_t *signature, size_t signature_len) {
+    (void)message, (void)message_len, (void)signature;
+    use(verifier);
+    return algorithm == JWT_HS256 && signature_len == 2 ? JWT_OK : JWT_INVALID_SIGNATURE;
+}
+
+enum jwt_status jwt_attach(struct jwt_handle *verifier, const uint8_t *message, size_t message_len,
+                           const uint8_t *signature, size_t signature_len, char *buffer, size_t buffer_len, size_t *len) {
+    (void)message, (void)message_len, (void)signature, (void)signature_len;
+    use(verifier);
+    return say("a.b.c", 5, buffer, buffer_len, len);
+}
+
+enum jwt_status jwt_verifier_or(struct jwt_handle *first, struct jwt_handle *second, struct jwt_handle *either) {
+    enter(first);
+    use(second);
+    leave(first);
+    return make(either);
 }

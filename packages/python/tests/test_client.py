@@ -904,6 +904,121 @@ def without_kids():
     until("a further fetch", lambda: (only(client), client.fetches, client._under_way), (["a"], 3, None))
 
 
+def verifiers():
+    """A Verifier fetches the set of a client for its first token, and a later set for a token with an unknown kid."""
+    client = Fetching(GOOD, ROTATED, OSError("down"))
+    verifier = jwt.Verifier(client, ["HS256"])
+    gives(0, lambda: client.fetches)
+    for _ in range(3):
+        gives(CLAIMS, verifier.decode, token("a"))
+        raises(jwt.InvalidSignatureError, verifier.decode, token("a", by="b"))
+        raises(jwt.UnknownKeyError, verifier.decode, token(None, by="a"), said="no kid")
+        raises(jwt.ExpiredSignatureError, verifier.decode, of("a", kid="a", exp=5), now=5)
+    gives(1, lambda: client.fetches)
+    gives(CLAIMS, verifier.decode, token("b"))
+    gives(CLAIMS, lambda: json.loads(verifier.raw_claims(token("b"))))
+    raises(jwt.UnknownKeyError, verifier.decode, token("a"), said='"a"')
+    gives(2, lambda: client.fetches)
+    time.sleep(0.31)
+    raises(OSError, verifier.decode, token("x", by="b"), said="down")
+    raises(jwt.PyJWKClientConnectionError, verifier.decode, token("x", by="b"), said="down")
+    gives(CLAIMS, verifier.decode, token("b"))
+    # the next set has the same keys: its verifier stays
+    client = Fetching(GOOD, lifespan=0.05)
+    verifier = jwt.Verifier(client, ["HS256"])
+    gives(CLAIMS, verifier.decode, token("a"))
+    first = verifier._made
+    time.sleep(0.06)
+    gives(CLAIMS, verifier.decode, token("a"))
+    until("a further fetch", lambda: (client.fetches, client._under_way), (2, None))
+    gives(CLAIMS, verifier.decode, token("a"))
+    test("the verifier stays", verifier._made is first)
+    raises(OSError, jwt.Verifier(Fetching(OSError("down")), ["HS256"]).decode, token("a"), said="down")
+    raises(jwt.InvalidKeyError, jwt.Verifier(Fetching(GOOD), ["RS256"]).decode, token("a"), said="no key of the set fits")
+    raises(ValueError, jwt.Verifier, Fetching(GOOD, cache_jwk_set=False), ["HS256"], said="leave out its cache_jwk_set=False")
+
+
+def of(issuer, kid=None, by=None, **claims):
+    """Returns a token of an issuer, which names a key, and is signed by it or by another one."""
+    return tokens.signed({"alg": "HS256", "kid": kid or issuer}, {"iss": issuer, **claims}, secret(by or kid or issuer)).decode()
+
+
+def issuers():
+    """Each of several issuers has its own key set, which rotates by itself; a key of one signs no token of another."""
+    a, b = Fetching(set_of("a"), lifespan=100), Fetching(set_of("b"), set_of("b"), set_of("b2"), lifespan=100)
+    a._pause = b._pause = 20
+    either = jwt.ByIssuer(jwt.Verifier(a, ["HS256"], issuer="a"), jwt.Verifier(b, ["HS256"], issuer=["b", "old b"]), jwt.Verifier(secret("c"), ["HS256"], issuer="c"))
+    for _ in range(3):
+        for it in ("a", "b", "c"):
+            gives({"iss": it}, either.decode, of(it))
+        for issuer, kid in (("b", "a"), ("a", "b"), ("c", "a"), ("c", "b"), ("a", "c"), ("d", "a"), ("d", "c"), ("", "a")):
+            got = outcome(either.decode, of(issuer, kid))
+            test(f"{issuer} with the key {kid}: {got!r}", isinstance(got, jwt.InvalidTokenError))
+        got = outcome(either.decode, token("a"))
+        test(f"no issuer: {got!r}", isinstance(got, jwt.MissingRequiredClaimError) and got.claim == "iss")
+    # an unknown kid has caused a further fetch from the issuer that the token names
+    gives((2, 2), lambda: (a.fetches, b.fetches))
+    raises(jwt.UnknownKeyError, either.decode, of("b", "b2"))
+    b._refetch_from = -math.inf
+    gives({"iss": "b"}, either.decode, of("b", "b2"))
+    raises(jwt.UnknownKeyError, either.decode, of("b"))
+    for it in range(30):
+        raises(jwt.ExpiredSignatureError, either.decode, of("a", exp=5), now=5)
+        raises(jwt.InvalidIssuerError, either.decode, of("d", "b2"))
+    gives((2, 3), lambda: (a.fetches, b.fetches))
+    gives({"iss": "old b"}, either.decode, of("old b", "b2"))
+
+
+def issuers_that_are_down():
+    """An issuer whose key server is down, or hangs, does not keep the tokens of another one."""
+    with later() as pass_by:
+        a, b = Fetching(set_of("a"), lifespan=100), Fetching(OSError("down"), OSError("down"), set_of("b"), OSError("down"), lifespan=100)
+        either = jwt.ByIssuer(jwt.Verifier(a, ["HS256"], issuer="a"), jwt.Verifier(b, ["HS256"], issuer="b"))
+        for _ in range(3):
+            gives({"iss": "a"}, either.decode, of("a"))
+        gives(0, lambda: b.fetches)
+        for fetches in (1, 2):
+            raises(OSError, either.decode, of("b"), said="down")
+            gives({"iss": "a"}, either.decode, of("a"))
+            gives(fetches, lambda: b.fetches)
+        gives({"iss": "b"}, either.decode, of("b"))
+        # the sets are overdue; that of a is fetched for a token of a, and the last one of b is used
+        pass_by(1000)
+        held, fetch = threading.Event(), b.fetch_data
+        b.fetch_data = lambda: (held.wait(20), fetch())[1]
+        gives({"iss": "a"}, at_once, "a token of a", either.decode, of("a"))
+        waiting = threading.Thread(target=lambda: outcome(either.decode, of("b")))
+        waiting.start()
+        gives({"iss": "a"}, at_once, "a token of a", either.decode, of("a"))
+        held.set()
+        waiting.join()
+        for it in ("a", "b"):
+            gives({"iss": it}, either.decode, of(it))
+            raises(jwt.InvalidTokenError, either.decode, of("a", "b"))
+    # no key of a later set fits the algorithms of its issuer
+    rsa = json.dumps({"keys": [{"kty": "OKP", "crv": "Ed25519", "kid": "e", "x": "11qYAYKxCrfVS_7TyWQHOg7hcvPapiMlrwIaaPcHURo"}]}).encode()
+    a, b = Fetching(set_of("a")), Fetching(set_of("b"), rsa)
+    either = jwt.ByIssuer(jwt.Verifier(b, ["HS256"], issuer="b"), jwt.Verifier(a, ["HS256"], issuer="a"))
+    gives([{"iss": "a"}, {"iss": "b"}], lambda: [either.decode(of(it)) for it in "ab"])
+    b.get_jwk_set(refresh=True)
+    gives({"iss": "a"}, either.decode, of("a"))
+    raises(jwt.InvalidKeyError, either.decode, of("b"), said="no key of the set fits")
+
+
+def issuers_in_threads():
+    """Many threads use one verifier of several issuers while their keys rotate."""
+    a, b = (Fetching(*[set_of(f"{it}{number}", it) for number in range(20)], lifespan=0.01) for it in "ab")
+    either = jwt.ByIssuer(jwt.Verifier(a, ["HS256"], issuer="a"), jwt.Verifier(b, ["HS256"], issuer="b"))
+
+    def work(number):
+        issuer, other = ("a", "b") if number % 2 else ("b", "a")
+        return all(either.decode(of(issuer)) == {"iss": issuer} and isinstance(outcome(either.decode, of(issuer, by=other)), jwt.InvalidSignatureError) for _ in range(100))
+
+    with concurrent.futures.ThreadPoolExecutor(8) as pool:
+        got = list(pool.map(work, range(16)))
+    test(f"threads over issuers: {got}", all(got) and a.fetches > 3)
+
+
 class SlowLock:
     """A lock after which a thread waits, so that others come between two of its steps."""
 
@@ -934,7 +1049,7 @@ for step in (rotation, refetches, misbehaving, outages, nobody_listens, no_signi
     step()
 for step in (redirects_to_another_scheme, mocks, threads_end, arguments, all_algorithms, apps):
     step()
-for step in (puts, fails_by_itself, chooses, without_kids, threads_at_once, stale_sets, forks):
+for step in (puts, fails_by_itself, chooses, without_kids, verifiers, issuers, issuers_that_are_down, issuers_in_threads, threads_at_once, stale_sets, forks):
     step()
 print(f"{passed} tests of PyJWKClient, {failed} failed")
 sys.exit(failed > 0)

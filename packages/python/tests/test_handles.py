@@ -19,42 +19,45 @@ with tempfile.TemporaryDirectory() as folder:
     os.environ["JWTPROVED_LIBRARY"] = made
     from counting import finish, gives, outcome, raises, test
 
-    from jwtproved import _library
-    from jwtproved._handles import Handles, is_issued
+    from jwtproved import _handles, _library
     from jwtproved._status import Source
 living = _library.library.living_handles
+REFUSED = 59, 20, 7
 
 
-def said(handles, token):
-    """Returns the claims, or the status and the number of the failed test."""
+def said(verifier, token):
+    """Returns the claims, or the status, the number of the failed test and the place of the claim."""
     try:
-        return handles.decode(token, 5).rstrip()
+        return verifier.decode(token, 5).rstrip()
     except _library.Refusal as refusal:
-        return refusal.status, refusal.test
+        return refusal.status, refusal.test, refusal.claim
 
 
-def handles_of(source, options=b"{}"):
-    keys = _library.Keys(source, b"a key")
-    return Handles(keys.copy(), options, 0, 0, keys.is_secret)
+def verifier_of(source, options=b"{}"):
+    return _handles.Keys(source, b"a key").verifier(options)
 
 
 def answers(source):
-    handles = handles_of(source)
-    gives('{"a":1}', said, handles, b"ok")
-    gives('{"a":1}', said, handles, b"long")
-    gives((2, 14), said, handles, b"other token")
-    raises(MemoryError, said, handles, b"12345")
-    gives('{"a":1}', said, handles, b"ok")
+    verifier = verifier_of(source)
+    gives('{"a":1}', said, verifier, b"ok")
+    gives('{"a":1}', said, verifier, b"long")
+    gives(REFUSED, said, verifier, b"other token")
+    raises(MemoryError, said, verifier, b"12345")
+    gives(REFUSED, said, verifier, b"x" * 20000)
+    gives('{"a":1}', said, verifier, b"ok")
     for arguments in (("ok", 5), (b"ok", "5"), (b"ok",), (b"ok", 5, 5), (None, 5)):
-        got = outcome(handles.decode, *arguments)
+        got = outcome(verifier.decode, *arguments)
         test(f"{got!r} of {arguments}", isinstance(got, (TypeError, ctypes.ArgumentError)))
+    if _handles._compiled is not None:
+        for arguments in ((), (1, 2, 3, b"ok", 5), (1, 2, 3, "ok", 5, True), (1, 2, "3", b"ok", 5, True), (1, 2, 3, b"ok", -1, True)):
+            got = outcome(_handles._compiled, *arguments)
+            test(f"{got!r} of {arguments}", isinstance(got, (TypeError, OverflowError)))
     for _ in range(3):
-        got = outcome(handles_of, source, b"[1]")
-        test(f"{got!r} of a key that is not fit", type(got) is _library.Refusal and (got.status, got.test) == (110, 0))
-    copy = _library.Keys(source, b"a key").copy()
-    for arguments in ((), (copy,), (copy, "{}"), (b"a key!!!", b"{}"), (bytearray(7), b"{}"), (5, b"{}")):
-        got = outcome(Handles, *arguments)
-        test(f"{got!r} of {arguments}", isinstance(got, (TypeError, ctypes.ArgumentError)))
+        got = outcome(verifier_of, source, b"[1]")
+        test(f"{got!r} of a key that is not fit", type(got) is _library.Refusal and (got.status, got.test, got.claim) == (110, 0, 0))
+    gives((True, False), lambda: (verifier.accepts("HS256", b"", b"ok"), verifier.accepts("HS256", b"", b"")))
+    gives("a.b.c", verifier.attached, b"a.b", b"c")
+    gives('{"a":1}', lambda: said(verifier.either(verifier_of(source)), b"ok"))
 
 
 def at_once(work):
@@ -69,34 +72,25 @@ def at_once(work):
 
 def threads(source):
     """In many threads each call has a handle of its own, or the program ends."""
-    handles, keys, wrong, made = handles_of(source), _library.Keys(source, b"a key"), [], []
+    verifier, keys, wrong, made = verifier_of(source), _handles.Keys(source, b"a key"), [], []
 
     def work():
         for _ in range(40):
-            got = [said(handles, it) for it in (b"ok", b"other token", b"long")]
-            if got != ['{"a":1}', (2, 14), '{"a":1}']:
+            got = [said(verifier, it) for it in (b"ok", b"other token", b"long")]
+            if got != ['{"a":1}', REFUSED, '{"a":1}'] or not verifier.accepts("HS256", b"", b"ok") or verifier.attached(b"", b"") != "a.b.c":
                 wrong.append(got)
 
     def make():
         for _ in range(10):
-            made.append((said(Handles(keys.copy(), b"{}"), b"ok"), keys.text()))
+            either = verifier.either(keys.verifier(b"{}"))
+            made.append((said(either, b"ok"), keys.text(), keys.signed(b"", b"")))
 
     at_once(work)
     test(f"threads by a {source.name}: {wrong}", not wrong)
     at_once(make)
-    wanted = '{"a":1}', b"a key" if keys.is_secret else b"{}"
-    test(f"threads that make verifiers of one {source.name}", len(made) == 160 and set(made) == {wanted})
+    test(f"threads that make verifiers of one {source.name}", len(made) == 160 and set(made) == {('{"a":1}', b"{}", "a.b.c")})
 
 
-def times_of_issue():
-    for seconds, answer in (((5, 0, 5), True), ((6, 0, 5), False), ((15, 10, 5), True), ((16, 10, 5), False), ((2**64 - 1, 2**64 - 1, 1), True)):
-        gives(answer, is_issued, *seconds)
-    for arguments in (("5", 0, 5), (5, None, 5), (5, 0, 5.5), (5, 0), (5, 0, 5, 5)):
-        got = outcome(is_issued, *arguments)
-        test(f"{got!r} of {arguments}", isinstance(got, (TypeError, ctypes.ArgumentError)))
-
-
-times_of_issue()
 for source_of_key in (Source.SECRET, Source.TEXT):
     answers(source_of_key)
     threads(source_of_key)

@@ -65,15 +65,19 @@ def claims(row):
     return row["claims"] if "claims" in row else json.loads(row["claims_json"])
 
 
+def values(message):
+    """Returns the header and the payload of a message, whose members may be in any order."""
+    return [json.loads(base64.urlsafe_b64decode(it + "==")) for it in message.split(".")]
+
+
 def message(row):
     algorithm, members = header(row)
     part = jwt.signing_input(claims(row), algorithm, members)
-    return {"algorithm": part.algorithm, "message": part.message.decode()}
+    return {"algorithm": part.algorithm, "message": values(part.message.decode())}
 
 
 def token_by_signature(row):
-    part = jwt.SigningInput(row["algorithm"], raw(row["message"]))
-    return jwt.encode_by_signature(claims(row), part, raw(row["signature"]), {"typ": None, **row["header"]})
+    return jwt.encode_by_signature(jwt.SigningInput(row["algorithm"], raw(row["message"])), raw(row["signature"]))
 
 
 def key_of(key):
@@ -130,6 +134,10 @@ CALLS = {
 }
 
 
+# signatures of a message that is one, and not that of the row's header and claims
+OTHERS = ("a signature of other claims", "a signature of another header")
+
+
 def call_of(row):
     """Returns what runs a row, or None for one that the package has no call for."""
     # some headers and keys are those of Rust, and not JSON of one
@@ -138,8 +146,8 @@ def call_of(row):
     # the bytes of a signature are given, and not its text
     if row["call"] == "verify" and (key_of(row["key"]) is None or row["want"] == {"err": "Base64"}):
         return None
-    # of times that are issued, the package cuts the fraction
-    if row.get("claims_json") == '{"exp":1.5}':
+    # the package is given no header and no claims with a message, and signs other numbers than integers too
+    if row["call"] in ("signing_input", "encode_by_signature") and (row["want"].get("err", "")[:7] not in ("", "Signing") or row["id"] in OTHERS):
         return None
     is_of_key = row["call"] == "decode_with_set" or row["call"] == "decode" and "jwk" in row["key"]
     if is_of_key and row["file"] == "standard":
@@ -156,6 +164,8 @@ def run(row, call):
     want = {"err": "InvalidKeyFormat"} if is_weak(row) else row["want"]
     if "ok" in want:
         ok = want["ok"]
+        if row["call"] == "signing_input":
+            ok = {**ok, "message": values(ok["message"])}
         gives(ok["claims"] if isinstance(ok, dict) and "claims" in ok else ok, call, row)
         return
     got = outcome(call, row)

@@ -76,7 +76,11 @@ def verdicts():
         ({"nbf": NOW + 1}, {}, jwt.ImmatureSignatureError),
         ({"iat": NOW + 1}, {}, jwt.ImmatureSignatureError),
         ({"exp": 0}, {}, jwt.ExpiredSignatureError),
-        ({}, {"options": {"require": ["jti"]}}, jwt.MissingRequiredClaimError),
+        ({"iat": "x"}, {}, jwt.InvalidIssuedAtError),
+        ({"sub": 5}, {}, jwt.InvalidSubjectError),
+        ({"jti": 5}, {"options": {"verify_sub": False}}, jwt.InvalidJTIError),
+        ({"aud": ["a"]}, {"audience": "a", "options": {"strict_aud": True}}, jwt.InvalidAudienceError),
+        ({"a": 1, "b": None}, {"options": {"require": ["a", "b"]}}, jwt.MissingRequiredClaimError),
     ):
         token = signed(claims)
         raises(kind, jwt.decode_by_verdict, token, jwt.signed_part(token), True, **HS, **options)
@@ -87,12 +91,21 @@ def messages():
     at(NOW)
     for digest, algorithm in (("sha256", "HS256"), ("sha384", "HS384"), ("sha512", "HS512")):
         for headers in (None, {"kid": "a"}, {"typ": None}, {"typ": "at+jwt", "a": [1, {"b": None}]}):
-            claims = {"exp": NOW + 1, "sub": "ada", "n": 2**64 - 1}
+            claims = {"exp": NOW + 1, "sub": "ada", "n": 2**64, "a": 1.5}
             message = jwt.signing_input(claims, algorithm, headers)
-            token = jwt.encode_by_signature(claims, message, hmac.digest(SECRET.encode(), message.message, digest), headers)
-            gives(jwt.encode(claims, SECRET, algorithm, headers), lambda: token)
-            gives(claims, jwt.decode, token, SECRET, [algorithm])
+            mac = hmac.digest(SECRET.encode(), message.message, digest)
+            for key in ((), (SECRET,), ({"kty": "oct", "k": part(SECRET.encode()), "alg": algorithm},)):
+                token = jwt.encode_by_signature(message, mac, *key)
+                gives(jwt.encode(claims, SECRET, algorithm, headers), lambda: token)
+                gives(claims, jwt.decode, token, SECRET, [algorithm])
             test(f"the algorithm {message.algorithm}", message.algorithm == algorithm)
+            # with the key no token goes out that it did not sign
+            raises(jwt.InvalidKeyError, jwt.encode_by_signature, message, bytes(len(mac)), SECRET, said="signature")
+            raises(jwt.InvalidKeyError, jwt.encode_by_signature, message, mac, "another secret of 32 bytes or more", said="signature")
+    other = {"kty": "oct", "k": part(SECRET.encode()), "alg": "HS256"}
+    for key, said in ((other, "not for the algorithm"), (ED_KEY, "not for the algorithm"), ({"keys": [other]}, "set")):
+        raises(jwt.InvalidKeyError, jwt.encode_by_signature, message, mac, key, said=said)
+    raises(TypeError, jwt.encode_by_signature, message, mac, 5, said="key")
 
 
 def slips():
@@ -101,33 +114,29 @@ def slips():
     mac = bytes(32)
     for it in ("{}", [], 5):
         raises(TypeError, jwt.signing_input, claims, "HS256", it, said="headers")
-        raises(TypeError, jwt.encode_by_signature, claims, message, mac, it, said="headers")
         raises(TypeError, jwt.encode, claims, SECRET, headers=it, said="headers")
     for it in ("{}", [], 5, None):
         raises(TypeError, jwt.signing_input, it, "HS256", said="payload")
-        raises(TypeError, jwt.encode_by_signature, it, message, mac, said="payload")
         raises(TypeError, jwt.encode, it, SECRET, said="payload")
-        raises(TypeError, jwt.encode_by_signature, claims, it, mac, said="part")
+    # the claims are in the message
+    for it in ("{}", claims, tuple(message), None):
+        raises(TypeError, jwt.encode_by_signature, it, mac, said="part must be the SigningInput that signing_input returned")
     raises(TypeError, jwt.encode, {"sub": b"bytes"}, SECRET, said="payload")
     raises(ValueError, jwt.encode, {"a": float("nan")}, SECRET, said="payload")
-    raises(ValueError, jwt.encode, {"sub": "\ud800"}, SECRET, said="claims")
-    raises(ValueError, jwt.encode, {"n": 2**64}, SECRET, said="integer")
-    raises(ValueError, jwt.signing_input, {"exp": NOW, "a": 1.5}, "ES256", said="integer")
-    raises(ValueError, jwt.encode_by_signature, {"a": 1.5}, message, mac, said="integer")
-    raises(TypeError, jwt.encode_by_signature, claims, tuple(message), mac, said="part")
-    raises(ValueError, jwt.encode_by_signature, claims, message._replace(algorithm="HS257"), mac, said="algorithm")
-    raises(TypeError, jwt.encode_by_signature, claims, message._replace(message=5), mac, said="message")
+    raises(ValueError, jwt.encode, {"sub": "\ud800"}, SECRET, said="payload")
+    raises(TypeError, jwt.encode_by_signature, message._replace(message=5), mac, said="message")
     for it in (32, None, "text"):
-        raises(TypeError, jwt.encode_by_signature, claims, message, it, said="signature")
+        raises(TypeError, jwt.encode_by_signature, message, it, said="signature")
     for it in ("HS257", "none", ""):
         raises(ValueError, jwt.signing_input, claims, it, said="algorithm")
     for it in (None, 1):
         raises(TypeError, jwt.signing_input, claims, it, said="algorithm")
-    # a signature of another length, or of the message of other claims, of other headers or by another algorithm
-    raises(ValueError, jwt.encode_by_signature, claims, message, b"s", said="signature")
-    raises(ValueError, jwt.encode_by_signature, {}, message, mac, said="message")
-    raises(ValueError, jwt.encode_by_signature, claims, message, mac, {"kid": "a"}, said="message")
-    raises(ValueError, jwt.encode_by_signature, claims, message, mac, {"alg": "HS384"}, said="alg")
+    # a signature of another length, and what is no message
+    for it in (b"", b"s", bytes(31), bytes(33)):
+        for key in ((), (SECRET,)):
+            raises(ValueError, jwt.encode_by_signature, message, it, *key, said="signature")
+    for it in (b"", b"a.b", message.message + b".", message.message[:-1] + b"=", b"e30." + message.message.rpartition(b".")[2]):
+        raises(ValueError, jwt.encode_by_signature, message._replace(message=it), mac, said="message")
 
 
 def ecdsa_signatures():

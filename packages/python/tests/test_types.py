@@ -42,6 +42,11 @@ jwt.Verifier(keys, ("RS256",)).decode(token.encode(), now=5.5)
 jwt.PyJWS().decode(token, secret, ["HS256"])
 jwt.PyJWT({"verify_aud": False}).decode(token, secret, ["HS256"])
 jwt.verify(b"message", b"signature", of_rsa.public_key(), "RS256").bit_length()
+by_client = jwt.Verifier(jwt.PyJWKClient("https://login.example/keys"), ["RS256"], issuer="https://login.example")
+jwt.ByIssuer(by_client, jwt.Verifier(secret, ["HS256"], issuer="a")).decode(token, now=5)["sub"]
+by_client.raw_claims(token).upper()
+part = jwt.signing_input({"a": 1.5}, "ES256")
+jwt.encode_by_signature(part, b"signature", of_ec.public_key()).upper()
 
 jwt.decode(token, secret, algorithms="HS256")  # error
 jwt.decode(token, secret, b"HS256")  # error
@@ -71,6 +76,8 @@ jwt.Verifier(keys, ["RS256"]).decode(token, datetime.datetime.now())  # error
 jwt.PyJWS().decode(token, secret, "HS256")  # error
 jwt.PyJWT({"verify": False})  # error
 jwt.verify(b"message", b"signature", secret, ["HS256"])  # error
+jwt.ByIssuer([by_client])  # error
+jwt.encode_by_signature({"a": 1.5}, part, b"signature")  # error
 jwt.verify(b"message", "signature", secret, "HS256")  # error
 """
 
