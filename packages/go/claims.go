@@ -32,29 +32,23 @@ type ClaimStrings []string
 
 // UnmarshalJSON reads a text or a list of texts.
 func (c *ClaimStrings) UnmarshalJSON(text []byte) error {
-	var read any
-	if err := json.Unmarshal(text, &read); err != nil {
+	list := []*string{new(string)}
+	var into any = &list
+	if bytes.HasPrefix(text, []byte(`"`)) {
+		into = list[0]
+	}
+	if err := json.Unmarshal(text, into); err != nil || list == nil { // null is read as json.Unmarshal reads it
 		return err
 	}
-	switch it := read.(type) {
-	case nil:
-		return nil // as json.Unmarshal does
-	case string:
-		*c = ClaimStrings{it}
-		return nil
-	case []any:
-		list := make(ClaimStrings, len(it))
-		for i, one := range it {
-			claim, is := one.(string)
-			if !is {
-				return &json.UnmarshalTypeError{Value: "list with another value than a text", Type: reflect.TypeOf(*c)}
-			}
-			list[i] = claim
+	read := make(ClaimStrings, len(list))
+	for i, it := range list {
+		if it == nil {
+			return &json.UnmarshalTypeError{Value: "list with null", Type: reflect.TypeOf(*c)}
 		}
-		*c = list
-		return nil
+		read[i] = *it
 	}
-	return &json.UnmarshalTypeError{Value: fmt.Sprintf("%T", read), Type: reflect.TypeOf(*c)}
+	*c = read
+	return nil
 }
 
 // NumericDate is a time as claims have it, in seconds since 1970-01-01 00:00:00 UTC (RFC 7519 section 2). It is written in whole seconds.
@@ -77,36 +71,43 @@ const latestSecond = 1 << 60
 
 // UnmarshalJSON reads a number, which may have a fraction.
 func (d *NumericDate) UnmarshalJSON(text []byte) error {
-	if string(text) == "null" {
+	number := string(text)
+	if number == "null" {
 		return nil // as json.Unmarshal does
 	}
-	var number json.Number
-	if bytes.HasPrefix(text, []byte(`"`)) || json.Unmarshal(text, &number) != nil {
-		return &json.UnmarshalTypeError{Value: "value that is not a number", Type: reflect.TypeOf(*d)}
-	}
-	whole, err := number.Int64()
+	whole, err := strconv.ParseInt(number, 10, 64)
 	part := 0.0
 	if err != nil {
-		since, err := number.Float64()
-		if err != nil {
-			since = math.Inf(1)
+		since, err := strconv.ParseFloat(number, 64)
+		if errors.Is(err, strconv.ErrSyntax) {
+			return &json.UnmarshalTypeError{Value: "value that is not a number", Type: reflect.TypeOf(*d)}
 		}
 		since, part = math.Modf(since)
 		whole = int64(math.Max(-2*latestSecond, math.Min(since, 2*latestSecond)))
 	}
 	if whole < -latestSecond || whole > latestSecond {
-		return &json.UnmarshalTypeError{Value: "number " + string(number), Type: reflect.TypeOf(*d)}
+		return &json.UnmarshalTypeError{Value: "number " + number, Type: reflect.TypeOf(*d)}
 	}
 	d.Time = time.Unix(whole, int64(part*1e9))
 	return nil
 }
 
-// readClaims reads claims into a value that keeps nothing from before, and calls its method Validate.
+// readClaims reads claims into a value that keeps nothing from before, and calls its method Validate. After an error the value is zero.
 func readClaims(claims []byte, into any) error {
+	err := unmarshal(claims, into)
+	if err != nil {
+		setZero(targets(into)...)
+	}
+	return err
+}
+
+func unmarshal(claims []byte, into any) error {
 	if err := checkNames(claims, mayFold(into)); err != nil {
 		return fmt.Errorf("%w: %v", ErrMalformed, err)
 	}
-	clearTarget(into)
+	if before := targets(into); len(before) > 0 {
+		setZero(before[len(before)-1]) // json.Unmarshal keeps each field and map entry without a claim
+	}
 	if err := json.Unmarshal(claims, into); err != nil {
 		return unreadClaims(err)
 	}
@@ -136,44 +137,37 @@ func unreadClaims(err error) error {
 
 type validator interface{ Validate() error }
 
-// reached returns a value, and what it leads to through pointers, of which one may lead back to itself.
-func reached(into any) []reflect.Value {
-	values := []reflect.Value{}
-	for at := reflect.ValueOf(into); at.IsValid() && len(values) < 10; at = at.Elem() {
-		if values = append(values, at); at.Kind() != reflect.Pointer && at.Kind() != reflect.Interface {
-			break
+// mostSteps is how many pointers are followed, of which one may lead back to itself.
+const mostSteps = 10
+
+func isPointer(at reflect.Value) bool {
+	return at.Kind() == reflect.Pointer || at.Kind() == reflect.Interface
+}
+
+// targets returns what a value leads to through pointers and can be set, the innermost last.
+func targets(into any) []reflect.Value {
+	var found []reflect.Value
+	for i, at := 0, reflect.ValueOf(into); i < mostSteps && isPointer(at); i++ {
+		if at = at.Elem(); at.CanSet() {
+			found = append(found, at)
 		}
 	}
-	return values
+	return found
 }
 
 // validatorOf returns what asks a value, or what it leads to, whether its claims are valid, or nil.
 func validatorOf(into any) validator {
-	for _, at := range reached(into) {
+	for i, at := 0, reflect.ValueOf(into); i < mostSteps && isPointer(at); i++ {
 		if it, is := at.Interface().(validator); is {
 			return it
 		}
+		at = at.Elem()
 	}
 	return nil
 }
 
-// clearTarget sets the value that claims are read into to zero: json.Unmarshal keeps each field and map entry without a claim. The
-// pointers to the value stay.
-func clearTarget(into any) {
-	values := reached(into)
-	for i := len(values) - 1; i >= 0; i-- {
-		if values[i].CanSet() {
-			values[i].Set(reflect.Zero(values[i].Type()))
-			return
-		}
-	}
-}
-
-// setZero leaves nothing in what a value leads to.
-func setZero(into any) {
-	for _, at := range reached(into) {
-		if at.CanSet() {
-			at.Set(reflect.Zero(at.Type()))
-		}
+func setZero(values ...reflect.Value) {
+	for _, it := range values {
+		it.Set(reflect.Zero(it.Type()))
 	}
 }

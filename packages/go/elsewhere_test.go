@@ -22,7 +22,7 @@ const (
 	joesX       = "f83OJ3D2xF1Bg8vub9tLe1gHMzV76e8Tus9uPHvRVEU"
 	joesY       = "x_FEzRu9m36HLN_tue659LNpXW6pCyStikYjKIWI5a0"
 	joesKey     = `{"kty":"EC","crv":"P-256","x":"` + joesX + `","y":"` + joesY + `"}`
-	joesClaims  = `{"exp":1300819380,"http://example.com/is_root":true,"iss":"joe"}`
+	joesClaims  = "{\"iss\":\"joe\",\r\n \"exp\":1300819380,\r\n \"http://example.com/is_root\":true}"
 	joesTime    = 1300819379
 )
 
@@ -88,7 +88,9 @@ func TestVerdict(t *testing.T) {
 		{"one that is not accepted", joesToken, checked, verdict, []string{"ES384"}, nil, ErrAlgorithm},
 		{"two families", joesToken, checked, verdict, []string{"ES256", "HS256"}, nil, ErrAlgorithm},
 		{"no such algorithm", joesToken, checked, verdict, []string{"ES257"}, nil, ErrOption},
-		{"a claim without a rule", joesToken, checked, verdict, []string{"ES256"}, []Option{WithRequired("jti")}, ErrOption},
+		{"without a required claim", joesToken, checked, verdict, []string{"ES256"}, []Option{WithRequired("jti")}, ErrMissingClaim},
+		{"with a required claim", joesToken, checked, verdict, []string{"ES256"}, []Option{WithRequired("http://example.com/is_root")}, nil},
+		{"without a string", joesToken, checked, verdict, []string{"ES256"}, []Option{WithStrings("http://example.com/is_root")}, ErrMalformedClaim},
 		{"no token", "a.b", checked, verdict, []string{"ES256"}, nil, ErrMalformed},
 	} {
 		token, err := ParseByVerdict(it.token, it.checked, it.verdict, it.algorithms, atUnless(joesTime, it.with)...)
@@ -187,6 +189,7 @@ func TestSigningInputArguments(t *testing.T) {
 		want      error
 	}{
 		{json.RawMessage(`{"exp":1.5}`), "ES256", nil, ErrOption},
+		{json.RawMessage(`{"a":1,"a":1}`), "ES256", nil, ErrOption},
 		{json.RawMessage(`[]`), "ES256", nil, ErrOption},
 		{json.RawMessage(`{`), "ES256", nil, ErrOption},
 		{map[string]any{"a": "\xff"}, "ES256", nil, ErrOption},
@@ -215,10 +218,6 @@ func TestChangedInputs(t *testing.T) {
 	if _, err := input.Token(make([]byte, 64)); !errors.Is(err, ErrOption) {
 		t.Error(err)
 	}
-	input.Algorithm = "ES256"
-	if _, err := input.Token(make([]byte, 64)); !errors.Is(err, ErrAlgorithm) {
-		t.Error(err)
-	}
 	for _, algorithm := range []string{"RS256", "RS384", "RS512", "PS256", "PS384", "PS512"} {
 		rsa, err := NewSigningInput(map[string]any{"a": 1}, algorithm, nil)
 		if err != nil {
@@ -233,9 +232,11 @@ func TestChangedInputs(t *testing.T) {
 			}
 		}
 	}
-	input.Algorithm, input.Message = "ES384", []byte("e30.e30")
-	if _, err := input.Token(make([]byte, 96)); !errors.Is(err, ErrOption) {
-		t.Error(err)
+	for _, it := range []string{"e30.e30", "", ".", string(input.Message) + ".", string(input.Message[1:])} {
+		input.Message = []byte(it)
+		if token, err := input.Token(make([]byte, 96)); token != "" || !errors.Is(err, ErrOption) {
+			t.Errorf("%s: %v, %v", it, token, err)
+		}
 	}
 }
 
@@ -257,29 +258,14 @@ func TestECDSASignature(t *testing.T) {
 	}
 }
 
-// TestMessages has the messages of tokens with all algorithms, as Python's json writes them, and a token with Go's Ed25519.
+// TestMessages has the messages of tokens with all algorithms, and a token with Go's Ed25519.
 func TestMessages(t *testing.T) {
-	seen := 0
-	rowsOf(t, vectors+"tokens_by_signature.jsonl", func(line []byte) {
-		var it struct {
-			Call   string
-			Header map[string]any
-			Claims json.RawMessage
-			Want   struct {
-				Ok *struct{ Algorithm, Message string }
-			}
+	for _, it := range []string{"HS256", "HS384", "HS512", "RS256", "RS384", "RS512", "PS256", "PS384", "PS512", "ES256", "ES384", "EdDSA"} {
+		input, err := NewSigningInput(json.RawMessage(joesClaims), it, map[string]any{"kid": "a"})
+		want := part([]byte(`{"alg":"`+it+`","kid":"a","typ":"JWT"}`)) + "." + joesPayload
+		if err != nil || string(input.Message) != want || input.Algorithm != it {
+			t.Errorf("%s: %v, %v", it, input, err)
 		}
-		if json.Unmarshal(line, &it) != nil || it.Call != "signing_input" || it.Want.Ok == nil || it.Header["typ"] != "JWT" {
-			return
-		}
-		seen++
-		input, err := NewSigningInput(it.Claims, it.Want.Ok.Algorithm, it.Header)
-		if err != nil || string(input.Message) != it.Want.Ok.Message || input.Algorithm != it.Want.Ok.Algorithm {
-			t.Errorf("%s: %v, %v", line, input, err)
-		}
-	})
-	if seen < 12 {
-		t.Error(seen)
 	}
 	input, err := NewSigningInput(map[string]any{"exp": 1700000001}, "EdDSA", map[string]any{"kid": "a"})
 	if err != nil {

@@ -21,7 +21,7 @@ var (
 	// ErrCrit is a crit that names a member which is not understood.
 	ErrCrit = errors.New("jwt: crit is not understood")
 	// ErrUnknownKey is a header that names no usable key of the set.
-	ErrUnknownKey = errors.New("jwt: the set has no such key")
+	ErrUnknownKey = errors.New("jwt: no matching key in the key set")
 	// ErrExpired is an exp that is not after now, less the leeway.
 	ErrExpired = errors.New("jwt: the token has expired")
 	// ErrNotYetValid is an nbf that is after now and the leeway, or by WithIssuedAt an iat that is; then Error.Claim is iat.
@@ -31,22 +31,22 @@ var (
 	// ErrIssuer is an iss without an accepted issuer.
 	ErrIssuer = errors.New("jwt: the issuer is not accepted")
 	// ErrSubject is another subject.
-	ErrSubject = errors.New("jwt: the subject is another")
+	ErrSubject = errors.New("jwt: the subject is not accepted")
 	// ErrMissingClaim is a claim that is required, and missing or malformed. Error.Claim is its name.
 	ErrMissingClaim = errors.New("jwt: a required claim is missing or malformed")
 	// ErrMalformedClaim is a claim that is checked and malformed. Error.Claim is its name.
 	ErrMalformedClaim = errors.New("jwt: a claim is malformed")
 	// ErrKey is a key that can't be read, that fits no listed algorithm, or that lets others sign.
-	ErrKey = errors.New("jwt: the key does not serve")
+	ErrKey = errors.New("jwt: unusable key")
 	// ErrOption is an option, a header or claims that are not understood.
-	ErrOption = errors.New("jwt: an argument is not understood")
+	ErrOption = errors.New("jwt: invalid argument")
 	// ErrOutOfMemory means that the verification did not finish.
 	ErrOutOfMemory = errors.New("jwt: out of memory")
 )
 
-// Error is a refusal by the library. Whoever sent a refused token need not be told more than its kind: the rest is for a log.
+// Error is a refusal by the library. Log it, and tell the sender of a refused token no more than its kind.
 type Error struct {
-	// Status is its number in jwtproved.h. It is 0 if the library accepted the token, and a claim is not of the type that is asked for.
+	// Status is its number in jwtproved.h. It is 0 if the library accepted the token, and a claim is not of the type of its field.
 	Status uint32
 	// Test is the name of the first test of the token that failed, such as SignatureIsAccepted, which docs/RULES.md explains, and
 	// TestNumber its number in jwtproved.h. They are empty and 0 if Parse did not refuse a token by one.
@@ -54,9 +54,10 @@ type Error struct {
 	TestNumber uint32
 	// Claim is the name of the claim that ErrMissingClaim or ErrMalformedClaim is about, such as exp, or iat for ErrNotYetValid by
 	// WithIssuedAt. Otherwise it is empty. That of a claim in an object is its path, such as realm.roles.
-	Claim string
-	kind  error
-	text  string
+	Claim  string
+	kind   error
+	text   string
+	hasKid bool // with ErrUnknownKey: the header has a kid
 }
 
 // Error returns the library's text of the refusal, such as "jwt: ExpiredSignature".
@@ -85,12 +86,46 @@ func keyError(why string, arguments ...any) error {
 	return fmt.Errorf("%w: %s", ErrKey, fmt.Sprintf(why, arguments...))
 }
 
+const noUsableKey = uint32(C.JWT_NO_USABLE_KEY)
+
+// isStatus returns whether an error is the refusal of this number.
+func isStatus(err error, status uint32) bool {
+	var refused *Error
+	return errors.As(err, &refused) && refused.Status == status
+}
+
 // refusal returns the error of a status, with the test of the token that failed, or 0.
 func refusal(status C.enum_jwt_status, test C.uint32_t) *Error {
 	return &Error{
 		Status: uint32(status), Test: textOf(C.JWT_OF_TEST, test), TestNumber: uint32(test), Claim: claimOf(status), kind: kindOf(status),
 		text: statusText(status),
 	}
+}
+
+// refusal returns the error of a token or claims that the library refused by these conditions, with the name of the claim.
+func (o *options) refusal(status C.enum_jwt_status, said C.struct_jwt_verdict) *Error {
+	refused := refusal(status, said.test)
+	refused.hasKid = said.has_kid == 1
+	if name := o.claimAt(status, said); name != "" {
+		refused.Claim = name
+		refused.text += ": " + name
+	}
+	return refused
+}
+
+// claimAt returns the name of the claim that a verdict is about, if its status does not have the name.
+func (o *options) claimAt(status C.enum_jwt_status, said C.struct_jwt_verdict) string {
+	names := o.Texts
+	if status == C.JWT_MISSING_CLAIM {
+		names = o.Further
+	}
+	switch place := said.claim; {
+	case place == C.JWT_CLAIM_IAT:
+		return "iat"
+	case place >= 1 && int(place) <= len(names):
+		return names[place-1]
+	}
+	return ""
 }
 
 // keyRefusal returns the error of a key that the library refuses with this status, and what to give instead.
@@ -110,56 +145,36 @@ func keyRefusal(status C.enum_jwt_status) *Error {
 	case C.JWT_IS_CERTIFICATE:
 		why = "it is a certificate: x509.ParseCertificate reads it, and NewPublicKey takes its PublicKey"
 	}
-	return &Error{Status: uint32(status), kind: ErrKey, text: "the key does not serve: " + why}
+	return &Error{Status: uint32(status), kind: ErrKey, text: "unusable key: " + why}
 }
+
+// registeredClaims has the claims with statuses of their own, in the order of these.
+var registeredClaims = []string{"exp", "nbf", "aud", "iss", "sub"}
 
 // claimOf returns the name of the claim that a status is about, or "".
 func claimOf(status C.enum_jwt_status) string {
-	switch status {
-	case C.JWT_MISSING_EXP, C.JWT_MALFORMED_EXP:
-		return "exp"
-	case C.JWT_MISSING_NBF, C.JWT_MALFORMED_NBF:
-		return "nbf"
-	case C.JWT_MISSING_AUD, C.JWT_MALFORMED_AUD:
-		return "aud"
-	case C.JWT_MISSING_ISS, C.JWT_MALFORMED_ISS:
-		return "iss"
-	case C.JWT_MISSING_SUB, C.JWT_MALFORMED_SUB:
-		return "sub"
+	for _, first := range []C.enum_jwt_status{C.JWT_MISSING_EXP, C.JWT_MALFORMED_EXP} {
+		if status >= first && int(status-first) < len(registeredClaims) {
+			return registeredClaims[status-first]
+		}
 	}
 	return ""
 }
 
+// kindsOf has the kinds of the statuses, but for those of claims and arguments. Each other one is ErrMalformed.
+var kindsOf = map[C.enum_jwt_status]error{
+	C.JWT_INVALID_SIGNATURE: ErrSignature, C.JWT_INVALID_CRIT: ErrCrit, C.JWT_NO_KEY: ErrUnknownKey, C.JWT_OUT_OF_MEMORY: ErrOutOfMemory,
+	C.JWT_INVALID_ALGORITHM: ErrAlgorithm, C.JWT_MISSING_ALGORITHM: ErrAlgorithm, C.JWT_INVALID_ALGORITHM_NAME: ErrAlgorithm,
+	C.JWT_EXPIRED_SIGNATURE: ErrExpired, C.JWT_IMMATURE_SIGNATURE: ErrNotYetValid, C.JWT_INVALID_AUDIENCE: ErrAudience,
+	C.JWT_INVALID_ISSUER: ErrIssuer, C.JWT_INVALID_SUBJECT: ErrSubject, C.JWT_TOKEN_TOO_LONG: ErrMalformed,
+	C.JWT_UNSUPPORTED_ALGORITHM: ErrKey, C.JWT_INVALID_KEY_FORMAT: ErrKey, C.JWT_SIGNING: ErrOption, C.JWT_CLOCK_BEFORE_EPOCH: ErrOption,
+}
+
 func kindOf(status C.enum_jwt_status) error {
-	switch status {
-	case C.JWT_INVALID_SIGNATURE:
-		return ErrSignature
-	case C.JWT_INVALID_ALGORITHM, C.JWT_MISSING_ALGORITHM, C.JWT_INVALID_ALGORITHM_NAME:
-		return ErrAlgorithm
-	case C.JWT_INVALID_CRIT:
-		return ErrCrit
-	case C.JWT_NO_KEY:
-		return ErrUnknownKey
-	case C.JWT_EXPIRED_SIGNATURE:
-		return ErrExpired
-	case C.JWT_IMMATURE_SIGNATURE:
-		return ErrNotYetValid
-	case C.JWT_INVALID_AUDIENCE:
-		return ErrAudience
-	case C.JWT_INVALID_ISSUER:
-		return ErrIssuer
-	case C.JWT_INVALID_SUBJECT:
-		return ErrSubject
-	case C.JWT_UNSUPPORTED_ALGORITHM, C.JWT_INVALID_KEY_FORMAT:
-		return ErrKey
-	case C.JWT_SIGNING, C.JWT_CLOCK_BEFORE_EPOCH:
-		return ErrOption
-	case C.JWT_TOKEN_TOO_LONG:
-		return ErrMalformed
-	case C.JWT_OUT_OF_MEMORY:
-		return ErrOutOfMemory
-	}
+	kind, is := kindsOf[status]
 	switch {
+	case is:
+		return kind
 	case status >= C.JWT_MISSING_EXP && status <= C.JWT_MISSING_CLAIM:
 		return ErrMissingClaim
 	case status >= C.JWT_MALFORMED_EXP && status <= C.JWT_MALFORMED_CLAIM:

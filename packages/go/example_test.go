@@ -89,9 +89,45 @@ func ExampleUnverifiedClaims() {
 	if err != nil {
 		panic(err)
 	}
-	// anyone can have written iss: it only selects the verifier
+	// anyone can have written iss
 	fmt.Println(claims["iss"])
 	// Output: https://login.example
+}
+
+func ExampleByIssuer() {
+	issuers := []string{"https://login.example", "https://partner.example"}
+	signers, verifiers := []*jwt.Signer{}, []*jwt.Verifier{}
+	for _, issuer := range issuers {
+		_, private, _ := ed25519.GenerateKey(nil)
+		signer, err := jwt.NewSigner(private, "EdDSA", jwt.WithKeyID("1"))
+		if err != nil {
+			panic(err)
+		}
+		jwk, _ := signer.JWK()
+		set, err := jwt.ParseJWKSet([]byte(`{"keys":[` + string(jwk) + `]}`))
+		if err != nil {
+			panic(err)
+		}
+		verifier, err := jwt.NewVerifier(set, []string{"EdDSA"}, jwt.WithIssuer(issuer))
+		if err != nil {
+			panic(err)
+		}
+		signers, verifiers = append(signers, signer), append(verifiers, verifier)
+	}
+	verifier, err := jwt.ByIssuer(verifiers...)
+	if err != nil {
+		panic(err)
+	}
+	for i := range issuers {
+		own, _ := signers[i].Sign(map[string]any{"iss": issuers[i], "exp": 2532524891})
+		other, _ := signers[i].Sign(map[string]any{"iss": issuers[1-i], "exp": 2532524891})
+		_, accepted := verifier.Parse(own)
+		_, refused := verifier.Parse(other)
+		fmt.Println(accepted, errors.Is(refused, jwt.ErrIssuer))
+	}
+	// Output:
+	// <nil> true
+	// <nil> true
 }
 
 func ExampleCheckClaims() {
@@ -126,8 +162,9 @@ func ExampleParseJWK() {
 	if err != nil {
 		panic(err)
 	}
-	fmt.Println(string(token.RawClaims()))
-	// Output: {"exp":1300819380,"http://example.com/is_root":true,"iss":"joe"}
+	var claims jwt.RegisteredClaims
+	fmt.Println(token.Claims(&claims), claims.Issuer)
+	// Output: <nil> joe
 }
 
 func ExampleError() {

@@ -348,7 +348,11 @@ func TestCheckClaims(t *testing.T) {
 		{`{"exp":1700000001,"sub":"x"}`, []Option{WithSubject("y")}},
 		{`{"exp":1700000001,"iat":1700000000}`, []Option{WithIssuedAt()}},
 		{`{"exp":1700000001,"iat":1700000001}`, []Option{WithIssuedAt()}},
+		{`{"exp":1700000001,"nbf":1700000001}`, []Option{WithIssuedAt()}},
 		{`{"exp":1700000001,"iat":"x"}`, []Option{WithIssuedAt()}},
+		{`{"exp":1700000001,"tenant":"x"}`, []Option{WithRequired("tenant", "role")}},
+		{`{"exp":1700000001,"tenant":5}`, []Option{WithStrings("role", "tenant")}},
+		{`{"exp":1700000001,"aud":["x"]}`, []Option{WithAudience("x"), WithOneAudience()}},
 		{`{"exp":1700000001}`, []Option{WithLeeway(-1)}},
 		{`{"exp":1700000001}`, []Option{nil}},
 	} {

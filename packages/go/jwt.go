@@ -59,9 +59,7 @@ func (t *Token) content() (*content, error) {
 }
 
 // Format does not show the claims, whatever the verb.
-func (Token) Format(state fmt.State, _ rune) {
-	_, _ = io.WriteString(state, "jwt.Token([redacted])")
-}
+func (Token) Format(state fmt.State, _ rune) { _, _ = io.WriteString(state, "jwt.Token([redacted])") }
 
 // Header returns the members of its header.
 // It reads them when it is called, since that takes nearly as long as to verify a token of 150 bytes with HS256.
@@ -73,8 +71,7 @@ func (t *Token) Header() (map[string]any, error) {
 	return UnverifiedHeader(has.header + "..")
 }
 
-// Claims reads the claims into a value, as json.Unmarshal does, and then calls its method Validate, if it has one. A float, and an integer
-// beyond 64 bits, is the nearest double.
+// Claims reads the claims into a value, as json.Unmarshal does, and then calls its method Validate, if it has one.
 //
 // Claims first sets the value to the zero value of its type, so a reused value has the claims of this token alone. Fields without a claim
 // become zero too, and a new map replaces a map. If Claims returns an error, the value is zero.
@@ -92,13 +89,11 @@ func (t *Token) Claims(into any) error {
 	if err != nil {
 		return err
 	}
-	if err = readClaims(has.claims, into); err != nil {
-		setZero(into)
-	}
-	return err
+	return readClaims(has.claims, into)
 }
 
-// RawClaims returns the claims as compact JSON.
+// RawClaims returns the bytes of the claims as they were signed, if no object in them has a name twice: their order and the digits of their
+// numbers stay. Otherwise it returns compact JSON with the members in the order of their names, and the last of each name (RFC 7519 section 4).
 func (t *Token) RawClaims() json.RawMessage {
 	has, err := t.content()
 	if err != nil {
@@ -122,8 +117,8 @@ func UnverifiedHeader(token string) (map[string]any, error) {
 	return readObject(unverified(token, headerPart))
 }
 
-// UnverifiedClaims returns the claims of a token of any algorithm, for example to select a Verifier by iss. Nothing is verified: anyone can
-// have written the claims. The error is ErrMalformed if the claims are not an object.
+// UnverifiedClaims returns the claims of a token of any algorithm, for example for a log. Nothing is verified: anyone can have written the
+// claims. The error is ErrMalformed if the claims are not an object.
 func UnverifiedClaims(token string) (map[string]any, error) {
 	return readObject(unverified(token, payloadPart))
 }
@@ -144,7 +139,7 @@ func readObject(object []byte, err error) (map[string]any, error) {
 // token that began a long connection, or for claims that a gateway passes on. CheckClaims verifies no signature. The error is ErrMalformed if
 // the claims are not a JSON object; other errors are as from Parse.
 func CheckClaims(claims []byte, opts ...Option) error {
-	asked, text, err := conditions(nil, opts)
+	asked, err := conditions(nil, opts)
 	if err != nil {
 		return err
 	}
@@ -152,10 +147,7 @@ func CheckClaims(claims []byte, opts ...Option) error {
 	if err != nil {
 		return err
 	}
-	if err := checkClaims(claims, text, now); err != nil {
-		return err
-	}
-	return asked.checkIssued(claims, now)
+	return checkClaims(claims, asked, now)
 }
 
 // Signature is the signature of a token that is checked or made elsewhere, such as by other cryptography, a KMS or an HSM.
@@ -168,22 +160,12 @@ type Signature struct {
 	Bytes []byte
 }
 
-// UnverifiedSignature returns the signature of a token, to be checked elsewhere. Nothing is verified, and the algorithm is the one that
-// the token itself names: check the signature with the one that your key is for, and with that key.
-func UnverifiedSignature(token string) (Signature, error) {
-	bytes, algorithm, length, err := signedPart(token)
-	if err != nil {
-		return Signature{}, err
-	}
-	return Signature{algorithm, []byte(token[:length]), bytes}, nil
-}
-
 // ParseByVerdict verifies a token whose signature was checked elsewhere: isGenuine says whether this is a signature of its message with
 // its algorithm and the key that the caller trusts. All else is verified as a Verifier does. The error is ErrSignature if isGenuine is
 // false, or if message or signature are not those of the token, and ErrAlgorithm if the algorithm is not. All algorithms must be of one
 // family: otherwise each token is ErrAlgorithm.
 func ParseByVerdict(token string, checked Signature, isGenuine bool, algorithms []string, opts ...Option) (*Token, error) {
-	asked, text, err := listed(algorithms, opts)
+	asked, err := listed(algorithms, opts)
 	if err != nil {
 		return nil, err
 	}
@@ -191,12 +173,9 @@ func ParseByVerdict(token string, checked Signature, isGenuine bool, algorithms 
 	if err != nil {
 		return nil, err
 	}
-	claims, err := decodeVerdict(token, checked, isGenuine, text, now)
+	claims, err := decodeVerdict(token, checked, isGenuine, asked, now)
 	if errors.Is(err, ErrOption) {
 		return nil, unknownAlgorithm(algorithms)
-	}
-	if err == nil {
-		err = asked.checkIssued(claims, now)
 	}
 	if err != nil {
 		return nil, err

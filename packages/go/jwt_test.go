@@ -8,6 +8,7 @@ import (
 	"encoding/json"
 	"errors"
 	"fmt"
+	"math/big"
 	"os"
 	"strings"
 	"testing"
@@ -104,8 +105,20 @@ func TestRefusals(t *testing.T) {
 		{"no token", "a.b", nil, ErrMalformed},
 		{"nothing", "", nil, ErrMalformed},
 		{"no object", signed(header, `[]`, secret), nil, ErrMalformed},
-		{"a claim without a rule", signed(header, `{}`, secret), []Option{WithRequired("jti")}, ErrOption},
-		{"a claim in other letters", signed(header, `{"EXP":1}`, secret), []Option{WithRequired("EXP")}, ErrOption},
+		{"a required claim of any name", signed(header, `{"exp":1700000001,"jti":0}`, secret), []Option{WithRequired("jti")}, nil},
+		{"none of this name", signed(header, `{"exp":1700000001}`, secret), []Option{WithRequired("jti")}, ErrMissingClaim},
+		{"a required claim that is null", signed(header, `{"exp":1700000001,"jti":null}`, secret), []Option{WithRequired("jti")}, ErrMissingClaim},
+		{"a claim in other letters", signed(header, `{"exp":1700000001,"JTI":"x"}`, secret), []Option{WithRequired("jti")}, ErrMissingClaim},
+		{"an exp in other letters", signed(header, `{"EXP":1700000001}`, secret), []Option{WithRequired("EXP")}, ErrMissingClaim},
+		{"a string", signed(header, `{"exp":1700000001,"sub":""}`, secret), []Option{WithStrings("sub", "jti")}, nil},
+		{"a string that is null", signed(header, `{"exp":1700000001,"sub":null}`, secret), []Option{WithStrings("sub")}, ErrMalformedClaim},
+		{"a number instead of a string", signed(header, `{"exp":1700000001,"sub":5}`, secret), []Option{WithStrings("sub")}, ErrMalformedClaim},
+		{"a number that may be there", signed(header, `{"exp":1700000001,"sub":5}`, secret), nil, nil},
+		{"one audience", signed(header, `{"exp":1700000001,"aud":"web"}`, secret), []Option{WithAudience("web"), WithOneAudience()}, nil},
+		{"a list of one audience", signed(header, `{"exp":1700000001,"aud":["web"]}`, secret), []Option{WithAudience("web"), WithOneAudience()}, ErrMalformedClaim},
+		{"any audience, but one", signed(header, `{"exp":1700000001,"aud":["a","b"]}`, secret), []Option{WithAnyAudience(), WithOneAudience()}, ErrMalformedClaim},
+		{"a list of issuers", signed(header, `{"exp":1700000001,"iss":["x"]}`, secret), []Option{WithIssuer("x")}, ErrMalformedClaim},
+		{"a list of other issuers", signed(header, `{"exp":1700000001,"iss":["y"]}`, secret), []Option{WithIssuer("x")}, ErrIssuer},
 		{"too long", strings.Repeat("a", 1<<20+1), nil, ErrMalformed},
 		{"a negative leeway", signed(header, `{}`, secret), []Option{WithLeeway(-1)}, ErrOption},
 	} {
@@ -134,6 +147,13 @@ func TestClaimOfError(t *testing.T) {
 		{`{"exp":1700000001}`, "sub", []Option{WithSubject("x")}, ErrMissingClaim},
 		{`{"exp":"x"}`, "exp", []Option{WithoutExpiry()}, ErrMalformedClaim},
 		{`{"exp":1700000001,"nbf":"x"}`, "nbf", nil, ErrMalformedClaim},
+		{`{"exp":1700000001,"tenant":1}`, "role", []Option{WithRequired("tenant"), WithRequired("role")}, ErrMissingClaim},
+		{`{"exp":1700000001,"nbf":5,"tenant":null}`, "tenant", []Option{WithRequired("nbf", "tenant", "role")}, ErrMissingClaim},
+		{`{"exp":1700000001,"iss":"x","jti":5}`, "jti", []Option{WithStrings("sub"), WithIssuer("x"), WithStrings("jti")}, ErrMalformedClaim},
+		{`{"exp":1700000001,"aud":["x"]}`, "aud", []Option{WithAudience("x"), WithOneAudience()}, ErrMalformedClaim},
+		{`{"exp":1700000001,"iat":1700000001}`, "iat", []Option{WithIssuedAt()}, ErrNotYetValid},
+		{`{"exp":1700000001,"nbf":1700000001}`, "", []Option{WithIssuedAt()}, ErrNotYetValid},
+		{`{"exp":1700000001,"iat":"x"}`, "iat", []Option{WithIssuedAt(), WithStrings("iat")}, ErrMalformedClaim},
 		{`{"exp":1}`, "", nil, ErrExpired},
 		{`{"exp":1700000001,"iss":"y"}`, "", []Option{WithIssuer("x")}, ErrIssuer},
 	} {
@@ -302,10 +322,72 @@ func TestSign(t *testing.T) {
 		{map[string]any{}, secret, "none", ErrOption},
 		{"text", secret, "HS256", ErrOption},
 		{make(chan int), secret, "HS256", ErrOption},
-		{map[string]any{"a": 1.5}, secret, "HS256", ErrOption},
+		{json.RawMessage(`{"exp":1,"exp":2}`), secret, "HS256", ErrOption},
+		{json.RawMessage(`{"a":[{"b":1,"\u0062":2}]}`), secret, "HS256", ErrOption},
+		{[]byte(`{"a":1}x`), secret, "HS256", ErrOption},
 	} {
 		if _, err := Sign(it.claims, it.secret, it.algorithm, nil); !errors.Is(err, it.want) {
 			t.Errorf("%v: %v, not %v", it, err, it.want)
+		}
+	}
+}
+
+// TestSignedBytes has claims whose bytes are signed, and returned, as they are: floats, large integers, order and spaces stay. Go's hmac signs
+// the same bytes alike.
+func TestSignedBytes(t *testing.T) {
+	header := `{"alg":"HS256","typ":"JWT"}`
+	type ordered struct {
+		Z   float64 `json:"z"`
+		Exp int64   `json:"exp"`
+		A   uint64  `json:"a"`
+	}
+	large, _ := new(big.Int).SetString("123456789012345678901234567890", 10)
+	for _, it := range []struct {
+		claims any
+		text   string
+	}{
+		{ordered{1.5, 1700000001, 1 << 63}, `{"z":1.5,"exp":1700000001,"a":9223372036854775808}`},
+		{map[string]any{"exp": 1700000001, "price": 1e-7, "n": large}, `{"exp":1700000001,"n":123456789012345678901234567890,"price":1e-7}`},
+		{json.RawMessage(" {\"exp\": 1700000001,\n \"n\": 1.10, \"a\": \"\\u0041\" }\r\n"), " {\"exp\": 1700000001,\n \"n\": 1.10, \"a\": \"\\u0041\" }\r\n"},
+		{[]byte("{\"z\":-0,\t\"exp\":1700000001,\"e\":1E2}"), "{\"z\":-0,\t\"exp\":1700000001,\"e\":1E2}"},
+		{map[string]any{"exp": 1700000001, "text": "<&>"}, `{"exp":1700000001,"text":"\u003c\u0026\u003e"}`},
+	} {
+		token, err := Sign(it.claims, secret, "HS256", nil)
+		if err != nil || token != signed(header, it.text, secret) {
+			t.Errorf("%s: %s, %v", it.text, token, err)
+			continue
+		}
+		read, err := parse(t, token, secretOf(t, secret), []string{"HS256"})
+		if err != nil || string(read.RawClaims()) != it.text {
+			t.Errorf("%s: %s, %v", it.text, read.RawClaims(), err)
+		}
+		made, err := NewSigner(edKey, "EdDSA")
+		if err != nil {
+			t.Fatal(err)
+		}
+		token, err = made.Sign(it.claims)
+		input, noInput := NewSigningInput(it.claims, "EdDSA", nil)
+		want := part([]byte(`{"alg":"EdDSA","typ":"JWT"}`)) + "." + part([]byte(it.text))
+		if err != nil || noInput != nil || !strings.HasPrefix(token, want+".") || string(input.Message) != want {
+			t.Errorf("%s: %s, %v, %v", it.text, token, err, noInput)
+		}
+	}
+}
+
+// TestRawClaims has claims of other issuers. They are returned as they were signed, unless an object has a name twice.
+func TestRawClaims(t *testing.T) {
+	for claims, want := range map[string]string{
+		`{"z":1.10,"exp":1700000001,"n":18446744073709551616,"a":1E300}`:   "",
+		"{ \"exp\" : 1700000001 ,\r\n \"a\" : { } }":                       "",
+		`{"exp":1,"z":2.50,"exp":1700000001,"a":100000000000000000000000}`: `{"a":1e+23,"exp":1700000001,"z":2.5}`,
+		`{"exp":1700000001,"a":{"b":1,"\u0062":2,"a":3}}`:                  `{"a":{"a":3,"b":2},"exp":1700000001}`,
+	} {
+		if want == "" {
+			want = claims
+		}
+		read, err := parse(t, signed(`{"alg":"HS256"}`, claims, secret), secretOf(t, secret), []string{"HS256"})
+		if err != nil || string(read.RawClaims()) != want {
+			t.Errorf("%s: %s, %v", claims, read.RawClaims(), err)
 		}
 	}
 }

@@ -4,8 +4,6 @@ package jwt
 
 import (
 	"crypto"
-	"crypto/ecdsa"
-	"crypto/rsa"
 	"crypto/x509"
 	"fmt"
 	"io"
@@ -93,10 +91,8 @@ func ParsePEM(text []byte) (Key, error) { return newKey(readKeys(fromText, text)
 func NewPublicKey(public crypto.PublicKey) (Key, error) { return newKey(readPublic(public)) }
 
 // readPublic has the library read the SubjectPublicKeyInfo of a public key.
-func readPublic(public crypto.PublicKey) (*keys, error) {
-	if !canMarshal(public) {
-		return nil, keyError("the %T is not complete, or not on its curve", public)
-	}
+func readPublic(public crypto.PublicKey) (read *keys, err error) {
+	defer recovered(public, &err)
 	der, err := x509.MarshalPKIXPublicKey(public)
 	if err != nil {
 		return nil, keyError("%v", err)
@@ -104,15 +100,11 @@ func readPublic(public crypto.PublicKey) (*keys, error) {
 	return readKeys(fromText, der)
 }
 
-// canMarshal returns whether crypto/x509 does not panic for a key.
-func canMarshal(public crypto.PublicKey) bool {
-	switch key := public.(type) {
-	case *rsa.PublicKey:
-		return key != nil && key.N != nil
-	case *ecdsa.PublicKey:
-		return key != nil && key.Curve != nil && key.X != nil && key.Y != nil && key.Curve.IsOnCurve(key.X, key.Y)
+// recovered sets the error of a key for which the standard library panics.
+func recovered(key any, err *error) {
+	if why := recover(); why != nil {
+		*err = keyError("the %T is nil, not complete, or not on its curve", key)
 	}
-	return true
 }
 
 // Thumbprint returns the thumbprint (RFC 7638) of a JSON Web Key, with SHA-2 of 256, 384 or 512 bits. Another number is ErrAlgorithm, and a key

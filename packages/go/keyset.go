@@ -51,6 +51,7 @@ type KeySet struct {
 	refresh, refetch, timeout time.Duration
 	isLazy                    bool
 	skipped                   func(SkippedKey)
+	given                     onlyOnce
 	ctx                       context.Context
 	current                   atomic.Pointer[fetched]
 
@@ -68,60 +69,42 @@ type fetched struct {
 	text    []byte
 	isEmpty bool
 	mutex   sync.Mutex // of kept
-	kept    []*keptHandles
+	kept    []keptHandles
 }
 
 // mostKept is for how many different options the handles of a set are kept.
 const mostKept = 16
 
-// keptHandles has the handles of a set for options, as soon as the first call has made them.
+// keptHandles has the handles of a set for options.
 type keptHandles struct {
 	options []byte
-	once    sync.Once
-	made    *handleSet
+	made    *handles
 }
 
-// handles returns the handles of the set for the options of verifiers, and makes them if this is the first call with the options. It makes
-// them without a lock, so that only calls with the same options wait.
-func (f *fetched) handles(options []byte) *handleSet {
-	it := f.keptFor(options)
-	it.once.Do(func() { it.made = newHandleSet(f, f.keys, options, forFetchedSet) })
-	if errors.Is(it.made.err, ErrOutOfMemory) {
-		f.forget(it)
-	}
-	return it.made
-}
-
-func (f *fetched) keptFor(options []byte) *keptHandles {
+// handles returns the handles of the set for the options of verifiers, and makes them if this is the first call with the options.
+func (f *fetched) handles(options []byte) *handles {
 	f.mutex.Lock()
 	defer f.mutex.Unlock()
 	for _, it := range f.kept {
 		if bytes.Equal(it.options, options) {
-			return it
+			return it.made
 		}
+	}
+	made := newHandles(f, f.keys, options, forFetchedSet)
+	if errors.Is(made.err, ErrOutOfMemory) {
+		return made
 	}
 	if len(f.kept) == mostKept {
 		f.kept = f.kept[1:]
 	}
-	f.kept = append(f.kept, &keptHandles{options: options})
-	return f.kept[len(f.kept)-1]
-}
-
-func (f *fetched) forget(handles *keptHandles) {
-	f.mutex.Lock()
-	defer f.mutex.Unlock()
-	for i, it := range f.kept {
-		if it == handles {
-			f.kept = append(f.kept[:i:i], f.kept[i+1:]...)
-			return
-		}
-	}
+	f.kept = append(f.kept, keptHandles{options, made})
+	return made
 }
 
 // prepare makes the handles that the verifiers of the set before will need, so that none of their calls waits for them.
 func (f *fetched) prepare(before *fetched) {
 	before.mutex.Lock()
-	kept := append([]*keptHandles(nil), before.kept...)
+	kept := append([]keptHandles(nil), before.kept...)
 	before.mutex.Unlock()
 	for _, it := range kept {
 		f.handles(it.options)
@@ -137,20 +120,31 @@ type flight struct {
 // KeySetOption changes how a KeySet fetches. Each may be given once.
 type KeySetOption func(*KeySet) error
 
+// timing returns an option that sets a duration.
+func timing(option string, duration time.Duration, set func(*KeySet)) KeySetOption {
+	return func(to *KeySet) error {
+		if duration <= 0 {
+			return optionError("%s: %v is not more than 0", option, duration)
+		}
+		set(to)
+		return to.given.add(option, leaveOneOut)
+	}
+}
+
 // WithRefresh has the set fetched so often in the background: every 5 minutes without this option. After a fetch that failed, the next
 // one is as soon as WithRefetch allows.
 func WithRefresh(every time.Duration) KeySetOption {
-	return func(set *KeySet) error { return setDuration("WithRefresh", &set.refresh, every) }
+	return timing("WithRefresh", every, func(set *KeySet) { set.refresh = every })
 }
 
 // WithRefetch has this as the least time from a fetch for an unknown kid to the next one: 10 seconds without this option.
 func WithRefetch(least time.Duration) KeySetOption {
-	return func(set *KeySet) error { return setDuration("WithRefetch", &set.refetch, least) }
+	return timing("WithRefetch", least, func(set *KeySet) { set.refetch = least })
 }
 
 // WithTimeout has this as the longest time that a fetch takes, and that Parse waits for it: 10 seconds without this option.
 func WithTimeout(longest time.Duration) KeySetOption {
-	return func(set *KeySet) error { return setDuration("WithTimeout", &set.timeout, longest) }
+	return timing("WithTimeout", longest, func(set *KeySet) { set.timeout = longest })
 }
 
 // WithLazyStart has NewKeySet return at once, so that a service starts while the key server is down. Until a set is fetched, Parse returns
@@ -169,32 +163,8 @@ func WithSkippedKeys(log func(SkippedKey)) KeySetOption {
 		if log == nil {
 			return optionError("WithSkippedKeys has no function")
 		}
-		if set.skipped != nil {
-			return optionError("WithSkippedKeys is given twice: %s", leaveOneOut)
-		}
 		set.skipped = log
-		return nil
-	}
-}
-
-// setDuration sets a duration that is 0 until an option gives it.
-func setDuration(option string, at *time.Duration, duration time.Duration) error {
-	if duration <= 0 {
-		return optionError("%s: %v is not more than 0", option, duration)
-	}
-	if *at != 0 {
-		return optionError("%s is given twice: %s", option, leaveOneOut)
-	}
-	*at = duration
-	return nil
-}
-
-// setDefaults sets the durations that no option gave.
-func (s *KeySet) setDefaults() {
-	for at, duration := range map[*time.Duration]time.Duration{&s.refresh: 5 * time.Minute, &s.refetch: 10 * time.Second, &s.timeout: 10 * time.Second} {
-		if *at == 0 {
-			*at = duration
-		}
+		return set.given.add("WithSkippedKeys", leaveOneOut)
 	}
 }
 
@@ -208,16 +178,10 @@ func NewKeySet(ctx context.Context, fetch Fetch, opts ...KeySetOption) (*KeySet,
 	if fetch == nil {
 		return nil, optionError("fetch is nil")
 	}
-	set := &KeySet{fetch: fetch, ctx: ctx}
-	for i, it := range opts {
-		if it == nil {
-			return nil, optionError("the option at place %d is nil", i)
-		}
-		if err := it(set); err != nil {
-			return nil, err
-		}
+	set := &KeySet{fetch: fetch, ctx: ctx, refresh: 5 * time.Minute, refetch: 10 * time.Second, timeout: 10 * time.Second, given: onlyOnce{}}
+	if err := apply(set, opts); err != nil {
+		return nil, err
 	}
-	set.setDefaults()
 	if set.isLazy {
 		empty, err := readKeys(fromSet, []byte(`{"keys":[]}`))
 		if err != nil {
@@ -443,18 +407,34 @@ func (s *KeySet) wait(begun *flight) bool {
 // after returns the set that follows one without the key of a token, if there is another, or if it is time to fetch one. If none follows
 // because the last fetch failed, or because it can't be waited for, it returns the error of that.
 func (s *KeySet) after(seen *fetched) (*fetched, error) {
+	begun, failure := s.ask(seen)
+	if begun == nil {
+		return s.current.Load(), failure
+	}
+	return s.settle(seen, s.wait(begun))
+}
+
+// ask returns the fetch that may give another set, or nil if there is one, if it is not time to fetch, or if too many wait.
+func (s *KeySet) ask(seen *fetched) (*flight, error) {
 	s.mutex.Lock()
 	defer s.mutex.Unlock()
-	if last := s.current.Load(); last != seen {
-		return last, nil
+	switch {
+	case s.current.Load() != seen:
+		return nil, nil
+	case s.underWay == nil && time.Now().Before(s.from):
+		return nil, s.failure
+	case s.waiting >= mostWaiting:
+		return nil, fetchError("%d tokens wait for it already", mostWaiting)
 	}
-	if s.underWay == nil && time.Now().Before(s.from) {
-		return seen, s.failure
-	}
-	if s.waiting >= mostWaiting {
-		return seen, fetchError("%d tokens wait for it already", mostWaiting)
-	}
-	hasEnded := s.waitLocked(s.startLocked())
+	s.waiting++
+	return s.startLocked(), nil
+}
+
+// settle returns the set after a fetch that was waited for.
+func (s *KeySet) settle(seen *fetched, hasEnded bool) (*fetched, error) {
+	s.mutex.Lock()
+	defer s.mutex.Unlock()
+	s.waiting--
 	s.from = time.Now().Add(s.refetch)
 	if last := s.current.Load(); last != seen {
 		return last, nil
@@ -463,14 +443,4 @@ func (s *KeySet) after(seen *fetched) (*fetched, error) {
 		return seen, fetchError("it took longer than %v", s.timeout)
 	}
 	return seen, s.failure
-}
-
-// waitLocked waits for a fetch without the lock, which it is called with.
-func (s *KeySet) waitLocked(begun *flight) bool {
-	s.waiting++
-	s.mutex.Unlock()
-	hasEnded := s.wait(begun)
-	s.mutex.Lock()
-	s.waiting--
-	return hasEnded
 }

@@ -213,14 +213,10 @@ func following(t *testing.T, uri string, with ...KeySetOption) (*KeySet, *Verifi
 	t.Helper()
 	until, cancel := context.WithCancel(context.Background())
 	t.Cleanup(cancel)
-	with = append(append([]KeySetOption{}, with...), func(set *KeySet) error {
-		for at, duration := range map[*time.Duration]time.Duration{&set.refresh: time.Hour, &set.refetch: soon, &set.timeout: 20 * time.Second} {
-			if *at == 0 {
-				*at = duration
-			}
-		}
+	with = append([]KeySetOption{func(set *KeySet) error {
+		set.refresh, set.refetch, set.timeout = time.Hour, soon, 20*time.Second
 		return nil
-	})
+	}}, with...)
 	set, err := FetchKeySet(until, uri, nil, with...)
 	for i := 0; i < 20 && err != nil; i++ {
 		// on a busy machine a good answer may take long too
@@ -272,6 +268,12 @@ func TestRefetches(t *testing.T) {
 	_, verifier := following(t, server.uri)
 	message := part([]byte(`{"alg":"EdDSA"}`)) + "." + part([]byte(`{"exp":1700000001}`))
 	without := message + "." + part(ed25519.Sign(signer("a"), []byte(message)))
+	first := server.fetches.Load() // on a busy machine there may be several
+	wants(t, verifier, without, ErrUnknownKey)
+	wants(t, verifier, tokenOf("a", "b"), ErrSignature)
+	if fetches := server.fetches.Load(); fetches != first {
+		t.Errorf("%d more fetches", fetches-first)
+	}
 	begin := time.Now()
 	for i := 0; i < 20; i++ {
 		wants(t, verifier, without, ErrUnknownKey)
@@ -685,7 +687,7 @@ func TestKeptHandles(t *testing.T) {
 	server := serve(t, says(setOf("a")))
 	set, verifier := following(t, server.uri)
 	same, err := NewVerifier(set.Key(), eddsa, at(now-1))
-	if err != nil || same.made.latest().handles != verifier.made.latest().handles {
+	if err != nil || same.made.latest() != verifier.made.latest() {
 		t.Error(err)
 	}
 	for i := 0; i < 2*mostKept; i++ {

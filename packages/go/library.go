@@ -9,18 +9,16 @@ package jwt
 
 // The token is not copied. The verifier is of a type without pointers, so that Go does not look for its own in what it points to. A
 // time of UINT64_MAX is that of the clock, which C reads in less time than Go.
-static enum jwt_status decode(uint8_t *verifier, _GoString_ token, uint64_t now, char *buffer, size_t size, size_t *len, uint64_t *last,
-                              uint32_t *test) {
+static enum jwt_status decode(uint8_t *verifier, _GoString_ token, uint64_t now, char *buffer, size_t size, struct jwt_verdict *said) {
 	if (now == UINT64_MAX) {
 		time_t clock = time(NULL);
 		if (clock < 0) {
-			*test = 0;
+			*said = (struct jwt_verdict){0};
 			return JWT_CLOCK_BEFORE_EPOCH;
 		}
 		now = (uint64_t)clock;
 	}
-	return jwt_verifier_decode((struct jwt_handle *)verifier, _GoStringPtr(token), _GoStringLen(token), now, buffer, size, len, last,
-	                           test);
+	return jwt_verifier_decode((struct jwt_handle *)verifier, _GoStringPtr(token), _GoStringLen(token), now, buffer, size, said);
 }
 */
 import "C"
@@ -32,33 +30,30 @@ import (
 	"unsafe"
 )
 
-// slice returns pointer and length of a text.
-func slice(text []byte) (*C.char, C.size_t) {
-	if len(text) == 0 {
-		return nil, 0
+// view is how C takes some bytes: chars if they are a text, and octets if they are a secret, a signature or a message.
+type view struct {
+	chars  *C.char
+	octets *C.uint8_t
+	len    C.size_t
+}
+
+func viewOf(of []byte) view {
+	if len(of) == 0 {
+		return view{}
 	}
-	return (*C.char)(unsafe.Pointer(&text[0])), C.size_t(len(text))
+	at := unsafe.Pointer(&of[0])
+	return view{(*C.char)(at), (*C.uint8_t)(at), C.size_t(len(of))}
 }
-
-// octets returns pointer and length of what is no text: a secret, a signature or a message.
-func octets(of []byte) (*C.uint8_t, C.size_t) {
-	at, length := slice(of)
-	return octetsAt(at), length
-}
-
-// octetsAt returns a buffer for what is no text.
-func octetsAt(buffer *C.char) *C.uint8_t { return (*C.uint8_t)(unsafe.Pointer(buffer)) }
 
 // call writes its result to a buffer, and its length or the length that is needed.
-type call func(buffer *C.char, size C.size_t, length *C.size_t) C.enum_jwt_status
+type call func(buffer view, length *C.size_t) C.enum_jwt_status
 
 // fill returns the bytes that a call writes, to a buffer of at first this size.
 func fill(size int, made call) ([]byte, C.enum_jwt_status) {
 	var length C.size_t
 	for {
 		buffer := make([]byte, size)
-		at, room := slice(buffer)
-		status := made(at, room, &length)
+		status := made(viewOf(buffer), &length)
 		if status != C.JWT_BUFFER_TOO_SMALL {
 			return buffer[:length], status
 		}
@@ -77,8 +72,8 @@ func answer(size int, made call) ([]byte, error) {
 
 // textOf returns the text of a status, or the name of a test or of an algorithm, or "" for an unknown number.
 func textOf(of, number C.uint32_t) string {
-	text, _ := fill(64, func(buffer *C.char, size C.size_t, length *C.size_t) C.enum_jwt_status {
-		return C.jwt_text(of, number, buffer, size, length)
+	text, _ := fill(64, func(to view, length *C.size_t) C.enum_jwt_status {
+		return C.jwt_text(of, number, to.chars, to.len, length)
 	})
 	return string(text)
 }
@@ -103,10 +98,9 @@ type keys struct {
 
 // readKeys has the library read keys, or returns the refusal. Items of a set may be skipped.
 func readKeys(from source, bytes []byte) (*keys, error) {
-	read := &keys{}
+	read, text := &keys{}, viewOf(bytes)
 	var items, kept C.size_t
-	at, length := octets(bytes)
-	if status := C.jwt_keys_add(&read.handle, from, at, length, &items, &kept); status != C.JWT_OK {
+	if status := C.jwt_keys_add(&read.handle, from, text.octets, text.len, &items, &kept); status != C.JWT_OK {
 		return nil, keyRefusal(status)
 	}
 	read.items, read.kept = int(items), int(kept)
@@ -156,44 +150,48 @@ func (k *keys) skipped(most int) []SkippedKey {
 	info := &C.struct_jwt_key_info{}
 	for place := 0; place < k.items && len(found) < most; place++ {
 		if C.jwt_keys_info(&k.handle, C.size_t(place), info) == C.JWT_OK && info.status != C.JWT_OK {
-			found = append(found, SkippedKey{place, k.kidAt(place), uint32(info.status), textOf(C.JWT_OF_STATUS, info.status)})
+			jwk, _ := k.textAt(place) // an item that is not a key has no text, and no kid
+			kid, _ := stringOf(jwk, "kid")
+			found = append(found, SkippedKey{place, kid, uint32(info.status), textOf(C.JWT_OF_STATUS, info.status)})
 		}
 	}
 	return found
 }
 
-// kidAt returns the kid of an item, or "" without a kid.
-func (k *keys) kidAt(place int) string {
-	text, err := k.textAt(place)
-	if err != nil {
-		return ""
-	}
-	kid, _ := stringOf(text, "kid")
-	return kid
-}
-
 // textAt returns the JSON Web Key of an item. The caller has the lock, or is the only one that has the keys.
 func (k *keys) textAt(place int) ([]byte, error) {
-	return answer(256, func(buffer *C.char, size C.size_t, length *C.size_t) C.enum_jwt_status {
-		return C.jwt_keys_text(&k.handle, C.size_t(place), buffer, size, length)
+	return answer(256, func(to view, length *C.size_t) C.enum_jwt_status {
+		return C.jwt_keys_text(&k.handle, C.size_t(place), to.chars, to.len, length)
 	})
 }
 
-// handle is a verifier of the library, which may be in one call at a time. The last three are what a call returns besides the claims.
-type handle struct {
-	verifier C.struct_jwt_handle
-	length   C.size_t
-	last     C.uint64_t
-	test     C.uint32_t
+// thumbprint returns the thumbprint of the first item. The caller is the only one that has the keys.
+func (k *keys) thumbprint(bits uint32) ([]byte, error) {
+	text, status := fill(96, func(to view, length *C.size_t) C.enum_jwt_status {
+		return C.jwt_thumbprint(&k.handle, 0, C.uint32_t(bits), to.chars, to.len, length)
+	})
+	switch status {
+	case C.JWT_OK:
+		return text, nil
+	case C.JWT_INVALID_ALGORITHM_NAME:
+		return nil, refusal(status, 0)
+	}
+	return nil, keyRefusal(status)
 }
 
-// tokenLength is the greatest length of a token that a handle verifies.
-type tokenLength = C.size_t
+// sign returns the token of a header and claims, signed byte for byte. The caller is the only one that has the keys, one secret.
+func (k *keys) sign(header, claims []byte) ([]byte, error) {
+	return answer(2*(len(header)+len(claims))+128, func(to view, length *C.size_t) C.enum_jwt_status {
+		header, claims := viewOf(header), viewOf(claims)
+		return C.jwt_sign(&k.handle, header.chars, header.len, claims.chars, claims.len, to.chars, to.len, length)
+	})
+}
 
-const (
-	defaultLength tokenLength = 0 // that of the library, JWT_TOKEN_LIMIT
-	anyLength                 = ^tokenLength(0)
-)
+// handle is a verifier of the library, which may be in one call at a time, and what the last call said.
+type handle struct {
+	verifier C.struct_jwt_handle
+	said     C.struct_jwt_verdict
+}
 
 // preparedSize is the greatest number of bytes that the prepared keys of a handle take. To prepare a key takes as long as one or two
 // verifications.
@@ -207,16 +205,14 @@ const (
 )
 
 // newHandle returns a verifier of keys and options, or the refusal.
-func newHandle(by *keys, options []byte, longest tokenLength, prepared preparedSize) (*handle, error) {
-	made := &handle{}
-	at, length := slice(options)
+func newHandle(by *keys, options []byte, prepared preparedSize) (*handle, error) {
+	made, text := &handle{}, viewOf(options)
 	by.mutex.Lock()
-	status := C.jwt_verifier_new(&by.handle, at, length, longest, prepared, &made.verifier)
+	status := C.jwt_verifier_new(&by.handle, text.chars, text.len, 0, prepared, &made.verifier) // 0 is JWT_TOKEN_LIMIT
 	by.mutex.Unlock()
 	switch status {
 	case C.JWT_OK:
-		runtime.SetFinalizer(made, (*handle).free)
-		return made, nil
+		return made.owned(), nil
 	case C.JWT_BAD_OPTIONS:
 		return nil, refusal(status, 0)
 	case C.JWT_NO_USABLE_KEY:
@@ -225,18 +221,29 @@ func newHandle(by *keys, options []byte, longest tokenLength, prepared preparedS
 	return nil, keyRefusal(status)
 }
 
+// owned has the garbage collector free a handle.
+func (it *handle) owned() *handle {
+	runtime.SetFinalizer(it, func(it *handle) { C.jwt_free(&it.verifier) })
+	return it
+}
+
 // share returns one more handle of the same keys and options.
 func (it *handle) share() (*handle, error) {
 	made := &handle{}
 	if status := C.jwt_share(&it.verifier, &made.verifier); status != C.JWT_OK {
 		return nil, refusal(status, 0)
 	}
-	runtime.SetFinalizer(made, (*handle).free)
-	return made, nil
+	return made.owned(), nil
 }
 
-// free may be called several times.
-func (it *handle) free() { C.jwt_free(&it.verifier) }
+// or returns a handle that accepts what this one accepts, and else what the other one does.
+func (it *handle) or(other *handle) (*handle, error) {
+	made := &handle{}
+	if status := C.jwt_verifier_or(&it.verifier, &other.verifier, &made.verifier); status != C.JWT_OK {
+		return nil, refusal(status, 0)
+	}
+	return made.owned(), nil
+}
 
 // smallToken has room for the claims of a short token: one request for memory takes less time than two.
 type smallToken struct {
@@ -244,8 +251,8 @@ type smallToken struct {
 	room [200]byte
 }
 
-// decode returns a token that is verified, or the refusal with the test that failed.
-func (it *handle) decode(token string, now uint64) (*Token, error) {
+// decode returns a token that is verified, or the status of the refusal, about which the handle has a verdict.
+func (it *handle) decode(token string, now uint64) (*Token, C.enum_jwt_status) {
 	var made *held
 	var claims []byte
 	// a token that is too long has no claims
@@ -257,32 +264,24 @@ func (it *handle) decode(token string, now uint64) (*Token, error) {
 	}
 	verifier := (*C.uint8_t)(unsafe.Pointer(&it.verifier))
 	for {
-		at, size := slice(claims)
-		status := C.decode(verifier, token, C.uint64_t(now), at, size, &it.length, &it.last, &it.test)
+		to := viewOf(claims)
+		status := C.decode(verifier, token, C.uint64_t(now), to.chars, to.len, &it.said)
 		switch status {
 		case C.JWT_OK:
-			return made.set(token, claims[:it.length]), nil
+			return made.set(token, claims[:it.said.len]), status
 		case C.JWT_BUFFER_TOO_SMALL:
-			claims = make([]byte, it.length)
+			claims = make([]byte, it.said.len)
 		default:
-			return nil, tokenRefusal(status, it.test, token)
+			return nil, status
 		}
 	}
 }
 
-// verifySignature returns the refusal of a token whose signature is not accepted. There is no room for the claims, and the tests after that
-// of the signature are of them.
-func (it *handle) verifySignature(token string) error {
-	verifier := (*C.uint8_t)(unsafe.Pointer(&it.verifier))
-	status := C.decode(verifier, token, 0, nil, 0, &it.length, &it.last, &it.test)
-	if status == C.JWT_OK || status == C.JWT_BUFFER_TOO_SMALL || it.test > C.JWT_TEST_SIGNATURE_IS_ACCEPTED {
-		return nil
-	}
-	return refusal(status, it.test)
+// attach returns the token of a message and its signature, which the verifier tests first. A handle that holds nothing tests the length alone.
+func (it *handle) attach(message, signature []byte) (string, error) {
+	token, err := answer(len(message)+2*len(signature)+2, func(to view, length *C.size_t) C.enum_jwt_status {
+		message, signature := viewOf(message), viewOf(signature)
+		return C.jwt_attach(&it.verifier, message.octets, message.len, signature.octets, signature.len, to.chars, to.len, length)
+	})
+	return string(token), err
 }
-
-// Statuses that are more than their kind.
-const (
-	noKey       = uint32(C.JWT_NO_KEY)
-	noUsableKey = uint32(C.JWT_NO_USABLE_KEY)
-)

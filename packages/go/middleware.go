@@ -141,13 +141,8 @@ func Middleware(verifier *Verifier, opts ...MiddlewareOption) (func(http.Handler
 		return nil, optionError("NewVerifier did not make this Verifier")
 	}
 	by := &guard{verifier: verifier, token: bearerToken, realm: "api", log: func(*http.Request, error) {}, given: onlyOnce{}}
-	for i, it := range opts {
-		if it == nil {
-			return nil, optionError("the option at place %d is nil", i)
-		}
-		if err := it(by); err != nil {
-			return nil, err
-		}
+	if err := apply(by, opts); err != nil {
+		return nil, err
 	}
 	return func(next http.Handler) http.Handler {
 		return http.HandlerFunc(func(to http.ResponseWriter, request *http.Request) {

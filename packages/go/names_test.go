@@ -43,6 +43,10 @@ func TestOtherNames(t *testing.T) {
 		`{"realm":{"roles":["user"],"role\u017f":["admin"]}}`,
 		`{"list":[1,[],{"key":"a","\u212aey":"b"}]}`,
 		`{"a":{"b":[{"c":{"d":1,"D":2}}]}}`,
+		"{\"sub\":\"alice\",\"SUB\" \t\r\n:\"root\"}",
+		`{"a\\":"\\\\","sub":"alice","SUB":"root"}`,
+		`{"x":"\"sub\":","sub":"alice","\u0053UB":"root"}`,
+		`{"sub":"alice","x":[{}, "\\" ,[]],"\u017fub":"root"}`,
 	} {
 		var read account
 		err := claimsOf(t, claims).Claims(&read)
@@ -119,8 +123,22 @@ func TestPlainNames(t *testing.T) {
 	if err := claimsOf(t, claims).Claims(&read); err != nil || read.Sub != "alice" || read.Role != "user" || read.List[1].Key != "b" {
 		t.Errorf("%+v, %v", read, err)
 	}
+	claims = `{"x":"SUB","y":["\"Sub\":1","\u017fub",":","É"],"z" : "\\","sub":"alice","https://a.example/Roles":1,"userId":2}`
+	if err := claimsOf(t, claims).Claims(&read); err != nil || read.Sub != "alice" {
+		t.Errorf("%+v, %v", read, err)
+	}
 	deep := `{"a":` + strings.Repeat(`[{"a":`, 50) + `1` + strings.Repeat(`}]`, 50) + `}`
 	if err := claimsOf(t, deep).Claims(&read); err != nil {
 		t.Error(err)
+	}
+}
+
+// TestCostOfNames compares the allocations of reading claims with those of json.Unmarshal alone: names in lower case are compared without any.
+func TestCostOfNames(t *testing.T) {
+	claims := []byte(`{"sub":"b@b.com","company":"ACME","exp":2532524891}`)
+	var read session
+	alone := testing.AllocsPerRun(100, func() { _ = json.Unmarshal(claims, &read) })
+	if whole := testing.AllocsPerRun(100, func() { _ = readClaims(claims, &read) }); whole > alone+2 {
+		t.Errorf("%v allocations, and %v of json.Unmarshal", whole, alone)
 	}
 }

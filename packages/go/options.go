@@ -9,11 +9,15 @@ import (
 	"unicode/utf8"
 )
 
-// options has the conditions on a token, by the names of jwtproved.h.
+// options has the conditions on a token, by the names of jwtproved.h. Required has names among exp, nbf, aud, iss and sub, and Further others.
 type options struct {
 	Strict      bool     `json:"strict"`
 	Algorithms  []string `json:"algorithms,omitempty"`
 	Required    []string `json:"required_spec_claims"`
+	Further     []string `json:"required,omitempty"`
+	Texts       []string `json:"texts,omitempty"`
+	IssuedAt    bool     `json:"issued_at,omitempty"`
+	OneAudience bool     `json:"one_audience,omitempty"`
 	Leeway      uint64   `json:"leeway"`
 	Remaining   *uint64  `json:"reject_tokens_expiring_in_less_than,omitempty"`
 	ValidateExp *bool    `json:"validate_exp,omitempty"`
@@ -23,15 +27,28 @@ type options struct {
 	Issuer      []string `json:"iss,omitempty"`
 	Subject     *string  `json:"sub,omitempty"`
 	Crit        []string `json:"understood_crit,omitempty"`
+	text        []byte   // these as JSON
 	noExpiry    bool
-	issuedAt    bool
 	now         func() time.Time // nil for that of the system
 	given       onlyOnce
 }
 
-// Option is a condition on a token. Only WithRequired may be given several times: any other second option is ErrOption, since it would
-// replace or widen the first.
+// Option is a condition on a token. Only WithRequired and WithStrings may be given several times with other values: any other second option is
+// ErrOption, since it would replace or widen the first.
 type Option func(*options) error
+
+// apply calls options, none of which may be nil.
+func apply[T any, O ~func(T) error](to T, opts []O) error {
+	for i, it := range opts {
+		if it == nil {
+			return optionError("the option at place %d is nil", i)
+		}
+		if err := it(to); err != nil {
+			return err
+		}
+	}
+	return nil
+}
 
 // onlyOnce has the names of the options so far.
 type onlyOnce map[string]bool
@@ -51,17 +68,8 @@ func (o onlyOnce) add(option, instead string) error {
 	return nil
 }
 
-func (o *options) requires(name string) bool {
-	for _, it := range o.Required {
-		if it == name {
-			return true
-		}
-	}
-	return false
-}
-
 // checkTexts returns an error if an argument has no text, an empty one, or one that is not UTF-8. An empty list and an empty text come
-// from a setting that is not there, and would ask for nothing.
+// from a setting that is not there, and would check nothing.
 func checkTexts(argument string, texts ...string) error {
 	if len(texts) == 0 {
 		return optionError("%s has no text", argument)
@@ -77,48 +85,56 @@ func checkTexts(argument string, texts ...string) error {
 	return nil
 }
 
-// checkList returns an error if an option has no text, a wrong one, or is given a second time.
-func (o *options) checkList(option string, texts []string) error {
-	if err := checkTexts(option, texts...); err != nil {
-		return err
-	}
-	return o.given.add(option, inOneCall)
-}
-
-// seconds returns a number of whole seconds.
-func seconds(option string, duration, least time.Duration) (uint64, error) {
-	if duration < least || duration%time.Second != 0 {
-		return 0, optionError("%s: %v is not a number of whole seconds from %d on", option, duration, least/time.Second)
-	}
-	return uint64(duration / time.Second), nil
-}
-
-// WithAudience asks for one of these audiences, of which there has to be one, and none may be empty. Without it, a token that names
-// an audience is refused.
-func WithAudience(audiences ...string) Option {
+// setting returns an option that may be given several times.
+func setting(set func(*options)) Option {
 	return func(asked *options) error {
-		asked.Audience = audiences
-		return asked.checkList("WithAudience", audiences)
-	}
-}
-
-// WithAnyAudience accepts a token whatever audience it names, or none. WithAudience contradicts it.
-func WithAnyAudience() Option {
-	return func(asked *options) error {
-		asked.ValidateAud = new(bool)
+		set(asked)
 		return nil
 	}
 }
 
-// WithIssuer asks for one of these issuers, of which there has to be one, and none may be empty.
-func WithIssuer(issuers ...string) Option {
+// listing returns an option that sets a list of strings.
+func listing(option string, texts []string, set func(*options)) Option {
 	return func(asked *options) error {
-		asked.Issuer = issuers
-		return asked.checkList("WithIssuer", issuers)
+		set(asked)
+		if err := checkTexts(option, texts...); err != nil {
+			return err
+		}
+		return asked.given.add(option, inOneCall)
 	}
 }
 
-// WithSubject asks for this subject, which may not be empty.
+// lasting returns an option that sets a number of whole seconds.
+func lasting(option string, duration, least time.Duration, set func(*options, uint64)) Option {
+	return func(asked *options) error {
+		if duration < least || duration%time.Second != 0 {
+			return optionError("%s: %v is not a number of whole seconds from %d on", option, duration, least/time.Second)
+		}
+		set(asked, uint64(duration/time.Second))
+		return asked.given.add(option, leaveOneOut)
+	}
+}
+
+// WithAudience requires one of these audiences, one or more, none of them empty. Without it, a token that names an audience is refused.
+func WithAudience(audiences ...string) Option {
+	return listing("WithAudience", audiences, func(asked *options) { asked.Audience = audiences })
+}
+
+// WithAnyAudience accepts a token whatever audience it names, or none. WithAudience contradicts it.
+func WithAnyAudience() Option { return setting(func(asked *options) { asked.ValidateAud = new(bool) }) }
+
+// WithOneAudience refuses a token whose aud is a list, also of one audience, with ErrMalformedClaim.
+func WithOneAudience() Option { return setting(func(asked *options) { asked.OneAudience = true }) }
+
+// WithIssuer requires one of these issuers, one or more, none of them empty. The iss has to be a string, and not a list (RFC 7519 section 4.1.1).
+func WithIssuer(issuers ...string) Option {
+	return listing("WithIssuer", issuers, func(asked *options) {
+		asked.Issuer = issuers
+		asked.Texts = append(asked.Texts, "iss")
+	})
+}
+
+// WithSubject requires this subject, which may not be empty.
 func WithSubject(subject string) Option {
 	return func(asked *options) error {
 		asked.Subject = &subject
@@ -129,86 +145,66 @@ func WithSubject(subject string) Option {
 	}
 }
 
-// WithRequired asks for these claims, among exp, nbf, aud, iss and sub, of which there has to be one. exp is asked for in any case,
-// unless WithoutExpiry is given; both contradict each other. WithRequired may be given several times.
+// WithRequired requires these claims, one or more of any names, with another value than null. exp is always required unless WithoutExpiry is
+// given; do not combine WithoutExpiry with WithRequired("exp").
 func WithRequired(claims ...string) Option {
 	return func(asked *options) error {
 		for _, it := range claims {
-			switch it {
-			case "exp", "nbf", "aud", "iss", "sub":
+			if contains(registeredClaims, it) {
 				asked.Required = append(asked.Required, it)
-			default:
-				return optionError("WithRequired: the library has no rule for the claim %q: check it in the method Validate of your type of claims", it)
+			} else {
+				asked.Further = append(asked.Further, it)
 			}
 		}
 		return checkTexts("WithRequired", claims...)
 	}
 }
 
-// WithoutExpiry accepts a token without exp too. One that has exp is checked.
-func WithoutExpiry() Option {
+func contains(list []string, text string) bool {
+	for _, it := range list {
+		if it == text {
+			return true
+		}
+	}
+	return false
+}
+
+// WithStrings refuses a token in which one of these claims, one or more, is there and is not a string, such as sub or jti, with
+// ErrMalformedClaim.
+func WithStrings(claims ...string) Option {
 	return func(asked *options) error {
-		asked.noExpiry = true
-		return nil
+		asked.Texts = append(asked.Texts, claims...)
+		return checkTexts("WithStrings", claims...)
 	}
 }
+
+// WithoutExpiry accepts a token without exp too. One that has exp is checked.
+func WithoutExpiry() Option { return setting(func(asked *options) { asked.noExpiry = true }) }
 
 // WithExpired accepts a token whose exp has passed too, for example to tell whose it was. WithRemaining contradicts it.
-func WithExpired() Option {
-	return func(asked *options) error {
-		asked.ValidateExp = new(bool)
-		return nil
-	}
-}
+func WithExpired() Option { return setting(func(asked *options) { asked.ValidateExp = new(bool) }) }
 
 // WithEarly accepts a token before its nbf too.
-func WithEarly() Option {
-	return func(asked *options) error {
-		asked.ValidateNbf = new(bool)
-		return nil
-	}
-}
+func WithEarly() Option { return setting(func(asked *options) { asked.ValidateNbf = new(bool) }) }
 
-// WithRemaining asks for a token that does not expire within this many whole seconds, of which there has to be one at least.
+// WithRemaining refuses a token that expires in less than this duration, a number of whole seconds, at least 1.
 func WithRemaining(least time.Duration) Option {
-	return func(asked *options) error {
-		remaining, err := seconds("WithRemaining", least, time.Second)
-		if err != nil {
-			return err
-		}
-		asked.Remaining = &remaining
-		return asked.given.add("WithRemaining", leaveOneOut)
-	}
+	return lasting("WithRemaining", least, time.Second, func(asked *options, seconds uint64) { asked.Remaining = &seconds })
 }
 
 // WithLeeway allows clocks to differ by this many whole seconds. There is none without it.
 func WithLeeway(leeway time.Duration) Option {
-	return func(asked *options) error {
-		allowed, err := seconds("WithLeeway", leeway, 0)
-		if err != nil {
-			return err
-		}
-		asked.Leeway = allowed
-		return asked.given.add("WithLeeway", leaveOneOut)
-	}
+	return lasting("WithLeeway", leeway, 0, func(asked *options, seconds uint64) { asked.Leeway = seconds })
 }
 
 // WithIssuedAt refuses a token before its iat, with ErrNotYetValid, whose Error.Claim is iat. A token may have no iat; one that is not a
 // number is ErrMalformedClaim.
-func WithIssuedAt() Option {
-	return func(asked *options) error {
-		asked.issuedAt = true
-		return nil
-	}
-}
+func WithIssuedAt() Option { return setting(func(asked *options) { asked.IssuedAt = true }) }
 
-// WithUnderstoodCrit accepts a token whose crit (RFC 7515 section 4.1.11) names some of these members of the header, of which there has
-// to be one. The caller has to do what they ask for: Token.Header has them. Without it, a token with a crit is refused.
+// WithUnderstoodCrit accepts a token whose crit (RFC 7515 section 4.1.11) lists some of these header parameters, one or more. The caller has to
+// process them: Token.Header has them. Without it, a token with a crit is refused.
 func WithUnderstoodCrit(names ...string) Option {
-	return func(asked *options) error {
-		asked.Crit = names
-		return asked.checkList("WithUnderstoodCrit", names)
-	}
+	return listing("WithUnderstoodCrit", names, func(asked *options) { asked.Crit = names })
 }
 
 // WithTime has the clock read by this function.
@@ -240,23 +236,15 @@ func moment(now func() time.Time) (uint64, error) {
 // moment returns the time for a call of the library that does not read the clock of the system.
 func (o *options) moment() (uint64, error) {
 	if o.now == nil {
-		o.now = time.Now
+		return moment(time.Now)
 	}
 	return moment(o.now)
-}
-
-// checkIssued refuses claims that were issued later, if WithIssuedAt asks for that.
-func (o *options) checkIssued(claims []byte, now uint64) error {
-	if !o.issuedAt {
-		return nil
-	}
-	return checkIssued(claims, o.Leeway, now)
 }
 
 // contradiction returns an error if two options ask for opposite things.
 func (o *options) contradiction() error {
 	switch {
-	case o.noExpiry && o.requires("exp"):
+	case o.noExpiry && contains(o.Required, "exp"):
 		return optionError("WithoutExpiry and WithRequired(%q) contradict each other", "exp")
 	case o.ValidateAud != nil && o.Audience != nil:
 		return optionError("WithAnyAudience and WithAudience contradict each other")
@@ -267,36 +255,28 @@ func (o *options) contradiction() error {
 }
 
 // listed returns the conditions of options and of a list of algorithms, which may not be empty.
-func listed(algorithms []string, opts []Option) (*options, []byte, error) {
+func listed(algorithms []string, opts []Option) (*options, error) {
 	if err := checkTexts("algorithms", algorithms...); err != nil {
-		return nil, nil, err
+		return nil, err
 	}
 	return conditions(algorithms, opts)
 }
 
-// conditions returns what algorithms and options ask for, and its text for the library.
-func conditions(algorithms []string, opts []Option) (*options, []byte, error) {
+// conditions returns what algorithms and options ask for.
+func conditions(algorithms []string, opts []Option) (*options, error) {
 	asked := &options{Strict: true, Algorithms: algorithms, Required: []string{}, given: onlyOnce{}}
-	for i, it := range opts {
-		if it == nil {
-			return nil, nil, optionError("the option at place %d is nil", i)
-		}
-		if err := it(asked); err != nil {
-			return nil, nil, err
-		}
+	if err := apply(asked, opts); err != nil {
+		return nil, err
 	}
 	if err := asked.contradiction(); err != nil {
-		return nil, nil, err
+		return nil, err
 	}
 	if !asked.noExpiry {
 		asked.Required = append(asked.Required, "exp")
 	}
-	if asked.issuedAt && asked.now == nil {
-		asked.now = time.Now // for all tests of a token the same time
+	var err error
+	if asked.text, err = json.Marshal(asked); err != nil {
+		return nil, optionError("%v", err)
 	}
-	text, err := json.Marshal(asked)
-	if err != nil {
-		return nil, nil, optionError("%v", err)
-	}
-	return asked, text, nil
+	return asked, nil
 }

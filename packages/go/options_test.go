@@ -37,6 +37,10 @@ var slips = []struct {
 	{"WithRequired", []Option{WithRequired("\xff")}},
 	{"WithRequired", []Option{WithoutExpiry(), WithRequired("exp")}},
 	{"WithRequired", []Option{WithRequired("exp"), WithoutExpiry()}},
+	{"WithStrings", []Option{WithStrings()}},
+	{"WithStrings", []Option{WithStrings([]string(nil)...)}},
+	{"WithStrings", []Option{WithStrings("sub", "")}},
+	{"WithStrings", []Option{WithStrings("\xff")}},
 	{"WithLeeway", []Option{WithLeeway(30)}},
 	{"WithLeeway", []Option{WithLeeway(1500 * time.Millisecond)}},
 	{"WithLeeway", []Option{WithLeeway(-time.Second)}},
@@ -91,8 +95,8 @@ func TestSlips(t *testing.T) {
 	if _, err := verifier.Parse(token); !errors.Is(err, ErrOption) {
 		t.Error(err)
 	}
-	// options serve several verifiers, and only WithRequired may be given several times
-	twice := []Option{WithRequired("iss"), WithRequired("sub"), WithIssuer("https://evil"), WithoutExpiry(), WithoutExpiry()}
+	// options serve several verifiers, and only WithRequired and WithStrings may be given several times
+	twice := []Option{WithRequired("iss"), WithRequired("sub"), WithStrings("iss"), WithStrings("sub"), WithIssuer("https://evil"), WithoutExpiry(), WithoutExpiry()}
 	for range [2]int{} {
 		if _, err := parse(t, token, key, []string{"HS256"}, twice...); err != nil {
 			t.Error(err)

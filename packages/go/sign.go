@@ -12,9 +12,10 @@ import (
 	"unicode/utf8"
 )
 
-// Sign returns the token of claims, which json.Marshal writes, signed with a secret, with HS256, HS384 or HS512. Members of header other
-// than alg and typ are those of the map, which may be nil and may not name another alg. No claim may be a float. A text that is not
-// UTF-8 is ErrOption, and a secret that NewSecretKey refuses is ErrKey.
+// Sign returns the token of claims, signed with a secret, with HS256, HS384 or HS512. What json.Marshal writes of the claims is signed byte for
+// byte. Claims that are a json.RawMessage or []byte are JSON, and are signed as they are. No object may have a name twice.
+// Header parameters other than alg and typ are those of the map, which may be nil and may not name another alg. A text that is not UTF-8 is
+// ErrOption, and a secret that NewSecretKey refuses is ErrKey.
 //
 // An exp, nbf or iat is a whole number of seconds from 1970 to the year 9999 (RFC 7519 section 2), such as NewNumericDate returns. Any
 // other value is ErrOption, such as null, milliseconds, or a time.Time in a map: verifiers do not read it, or read another time.
@@ -23,16 +24,13 @@ func Sign(claims any, secret []byte, algorithm string, header map[string]any) (s
 	if err != nil {
 		return "", err
 	}
-	read.free()
+	defer read.free()
 	headerText, claimsText, err := parts(claims, algorithm, header)
 	if err != nil {
 		return "", err
 	}
-	token, err := encode(headerText, claimsText, secret)
-	if err != nil {
-		return "", unwritten(err, headerText, claimsText)
-	}
-	return string(token), nil
+	token, err := read.sign(headerText, claimsText)
+	return string(token), unsigned(err, headerText)
 }
 
 // SigningInput is what has to be signed for a token, with a key that is kept elsewhere, such as in a KMS or an HSM.
@@ -40,8 +38,7 @@ type SigningInput struct {
 	// Algorithm is the algorithm of the signature.
 	Algorithm string
 	// Message has the bytes to be signed.
-	Message        []byte
-	header, claims []byte
+	Message []byte
 }
 
 // NewSigningInput returns what has to be signed for the token of these claims, with any of the twelve algorithms. The arguments are as
@@ -51,32 +48,21 @@ func NewSigningInput(claims any, algorithm string, header map[string]any) (*Sign
 	if err != nil {
 		return nil, err
 	}
-	return newSigningInput(algorithm, headerText, claimsText)
-}
-
-func newSigningInput(algorithm string, header, claims []byte) (*SigningInput, error) {
-	message, _, err := signingInput(header, claims)
+	message, err := signingInput(headerText, claimsText)
 	if err != nil {
-		return nil, unwritten(err, header, claims)
+		return nil, unsigned(err, headerText)
 	}
-	return &SigningInput{algorithm, message, header, claims}, nil
+	return &SigningInput{algorithm, message}, nil
 }
 
 // Token returns the token with this signature of the message. With ES256 and ES384 that is two numbers one after the other, which
 // ECDSASignature makes of a signature in DER. A signature of another length than the algorithm has is ErrOption. With RSA the length depends on
 // the key, and only an empty signature is ErrOption. Token does not verify the signature.
 func (in *SigningInput) Token(signature []byte) (string, error) {
-	if in == nil || in.header == nil {
+	if in == nil {
 		return "", optionError("NewSigningInput did not make this SigningInput")
 	}
-	token, err := encodeSignature(in.header, in.claims, Signature{in.Algorithm, in.Message, signature})
-	return string(token), err
-}
-
-// ECDSASignature returns a signature with ES256 or ES384 in the form of a token, from one in DER, which crypto/ecdsa and a KMS make. Other
-// bytes are ErrSignature.
-func ECDSASignature(der []byte, algorithm string) ([]byte, error) {
-	return ecdsaSignature(der, algorithm)
+	return (&handle{}).attach(in.Message, signature)
 }
 
 // parts returns the texts of header and claims.
@@ -94,7 +80,7 @@ func claimsText(claims any) ([]byte, error) {
 	if err != nil {
 		return nil, err
 	}
-	var members map[string]json.RawMessage // of the exact names, and of several members of one name the last, as the library reads them
+	var members map[string]json.RawMessage
 	if json.Unmarshal(text, &members) != nil {
 		return text, nil // the library says that it is no object
 	}
@@ -180,8 +166,14 @@ func headerText(algorithm string, header map[string]any) ([]byte, error) {
 	return marshal("header", members)
 }
 
-// marshal returns the JSON of an argument, whose texts have to be UTF-8.
+// marshal returns the JSON of an argument, whose texts have to be UTF-8. JSON stays as it is.
 func marshal(argument string, value any) ([]byte, error) {
+	switch it := value.(type) {
+	case json.RawMessage:
+		return it, nil
+	case []byte:
+		return it, nil
+	}
 	text, err := json.Marshal(value)
 	if err != nil {
 		return nil, optionError("%s: %v", argument, err)

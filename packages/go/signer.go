@@ -18,7 +18,7 @@ import (
 )
 
 // ErrSigning is a private key that did not sign, or a signature of it that its own public key does not verify. It wraps the key's error.
-var ErrSigning = errors.New("jwt: the key did not sign")
+var ErrSigning = errors.New("jwt: signing failed")
 
 func signingError(cause error) error {
 	return &joinedError{ErrSigning, cause, ErrSigning.Error() + ": " + cause.Error()}
@@ -52,21 +52,10 @@ type signing struct {
 }
 
 // Format does not show the key, whatever the verb.
-func (Signer) Format(state fmt.State, _ rune) {
-	_, _ = io.WriteString(state, "jwt.Signer([redacted])")
-}
+func (Signer) Format(state fmt.State, _ rune) { _, _ = io.WriteString(state, "jwt.Signer([redacted])") }
 
 // SignerOption sets a member of the header of the tokens that a Signer issues. Each member may be set once.
 type SignerOption func(members map[string]any) error
-
-// setMember sets a member of a header, or returns an error if an option set it before.
-func setMember(members map[string]any, name string, value any) error {
-	if _, isThere := members[name]; isThere {
-		return optionError("the options set the header's %s twice: %s", quoted(name), leaveOneOut)
-	}
-	members[name] = value
-	return nil
-}
 
 // WithKeyID names the key by this kid, which may not be empty, so that those who have its set of keys find it.
 func WithKeyID(kid string) SignerOption {
@@ -74,7 +63,7 @@ func WithKeyID(kid string) SignerOption {
 		if err := checkTexts("WithKeyID", kid); err != nil {
 			return err
 		}
-		return setMember(members, "kid", kid)
+		return WithHeader("kid", kid)(members)
 	}
 }
 
@@ -84,21 +73,32 @@ func WithHeader(name string, value any) SignerOption {
 		if err := checkTexts("WithHeader", name); err != nil {
 			return err
 		}
-		return setMember(members, name, value)
+		if _, isThere := members[name]; isThere {
+			return optionError("the options set the header's %s twice: %s", quoted(name), leaveOneOut)
+		}
+		members[name] = value
+		return nil
 	}
 }
 
 // NewSigner returns a signer with a private key of RSA, P-256, P-384 or Ed25519 and an algorithm of it: RS256 to RS512 and PS256 to PS512,
 // ES256, ES384 or EdDSA. A crypto.Signer is a key of the standard library (ParsePrivatePEM reads one), or one that a KMS or an HSM keeps; it
 // has to serve several goroutines at once if the Signer does. A key that is nil or not complete, that is of another kind or curve, or an RSA
-// key of less than 2048 bits is ErrKey. Sign returns ErrOption if a member of the header is of another type than its name has.
+// key of less than 2048 bits is ErrKey. Sign returns ErrOption if a header parameter is of another type than its name has.
 func NewSigner(key crypto.Signer, algorithm string, opts ...SignerOption) (*Signer, error) {
-	header, err := headerBy(algorithm, opts)
+	members := map[string]any{}
+	if err := apply(members, opts); err != nil {
+		return nil, err
+	}
+	header, err := headerText(algorithm, members)
 	if err != nil {
 		return nil, err
 	}
 	form, is := signatureForms[algorithm]
-	if !is {
+	switch {
+	case numberOf(algorithm) == 0:
+		return nil, optionError("the algorithm %s is none of the twelve", quoted(algorithm))
+	case !is:
 		return nil, keyError("%s is no algorithm of a private key", algorithm)
 	}
 	public, err := publicOf(key)
@@ -113,82 +113,34 @@ func NewSigner(key crypto.Signer, algorithm string, opts ...SignerOption) (*Sign
 	if err != nil {
 		return nil, err
 	}
-	verifying, err := signatureVerifier(read, algorithm, header)
-	if err != nil {
-		return nil, err
+	verifying := newHandles(nil, read, []byte(`{"algorithms":["`+algorithm+`"]}`), forManyTokens)
+	if verifying.err != nil {
+		return nil, fmt.Errorf("%w: %q", verifying.err, algorithm)
 	}
 	_, isDER := public.(*ecdsa.PublicKey)
 	return &Signer{&signing{func() crypto.Signer { return key }, algorithm, form, isDER, header, jwk, verifying}}, nil
 }
 
-// headerBy returns the header of the tokens of a signer.
-func headerBy(algorithm string, opts []SignerOption) ([]byte, error) {
-	members := map[string]any{}
-	for i, it := range opts {
-		if it == nil {
-			return nil, optionError("the option at place %d is nil", i)
-		}
-		if err := it(members); err != nil {
-			return nil, err
-		}
-	}
-	if numberOf(algorithm) == 0 {
-		return nil, optionError("the algorithm %s is none of the twelve", quoted(algorithm))
-	}
-	return headerText(algorithm, members)
-}
-
-// publicOf returns the public key of a private key that can sign. The standard library panics for one that lacks a part.
+// publicOf returns the public key of a private key that can sign.
 func publicOf(key crypto.Signer) (public crypto.PublicKey, err error) {
-	defer func() {
-		if why := recover(); why != nil {
-			public, err = nil, keyError("the %T is nil, or not complete", key)
-		}
-	}()
-	if key == nil {
-		return nil, keyError("there is none")
-	}
+	defer recovered(key, &err)
+	isComplete := true
 	switch it := key.(type) {
+	case nil:
+		return nil, keyError("there is none")
 	case *rsa.PrivateKey:
-		if it.D.Sign() <= 0 {
-			return nil, keyError("the %T is not complete", key)
-		}
-		if len(it.Primes) > 0 {
-			err = it.Validate()
-		}
+		isComplete = it.D.Sign() > 0 && (len(it.Primes) == 0 || it.Validate() == nil)
 	case *ecdsa.PrivateKey:
-		if it.D.Sign() <= 0 {
-			return nil, keyError("the %T is not complete", key)
-		}
+		isComplete = it.D.Sign() > 0
 	}
-	if err != nil {
-		return nil, keyError("%v", err)
+	if !isComplete {
+		return nil, keyError("the %T is not complete, or its parts do not belong together", key)
 	}
 	return key.Public(), nil
 }
 
-// signatureVerifier returns handles that verify the signatures of tokens with this header by a public key.
-func signatureVerifier(public *keys, algorithm string, header []byte) (*handles, error) {
-	var members map[string]json.RawMessage
-	var crit []string
-	if json.Unmarshal(header, &members) == nil && members["crit"] != nil {
-		_ = json.Unmarshal(members["crit"], &crit) // if it is not a list of names, Sign says so
-	}
-	no := false
-	options, err := json.Marshal(options{Algorithms: []string{algorithm}, Required: []string{}, ValidateExp: &no, ValidateNbf: &no, ValidateAud: &no, Crit: crit})
-	if err != nil {
-		return nil, optionError("%v", err)
-	}
-	made, err := newHandles(public, options, anyLength, forManyTokens)
-	if err != nil && !errors.Is(err, ErrOutOfMemory) {
-		return nil, fmt.Errorf("%w: %q", err, algorithm)
-	}
-	return made, err
-}
-
-// Sign returns the token of claims, which json.Marshal writes, and of which none may be a float. Its signature is verified by the public key
-// before it is returned. If the key can't sign, or its signature is wrong, the error is ErrSigning. Claims that can't be written are
-// ErrOption, and so is an exp, nbf or iat that the function Sign refuses.
+// Sign returns the token of claims, which are as for the function Sign. The library verifies the signature with the public key before the
+// token is returned. If the key can't sign, or its signature is wrong, the error is ErrSigning. Claims that can't be written are ErrOption.
 func (s *Signer) Sign(claims any) (string, error) {
 	if s == nil || s.made == nil {
 		return "", optionError("NewSigner did not make this Signer")
@@ -197,19 +149,16 @@ func (s *Signer) Sign(claims any) (string, error) {
 	if err != nil {
 		return "", err
 	}
-	input, err := newSigningInput(s.made.algorithm, s.made.header, text)
+	message, err := signingInput(s.made.header, text)
 	if err != nil {
-		return "", err
+		return "", unsigned(err, s.made.header)
 	}
-	signature, err := s.made.sign(input.Message)
-	if err != nil {
-		return "", signingError(err)
-	}
-	token, err := input.Token(signature)
+	signature, err := s.made.sign(message)
 	if err != nil {
 		return "", signingError(err)
 	}
-	if err := s.made.verify(token); err != nil {
+	token, err := s.made.verifying.attach(message, signature)
+	if err != nil {
 		return "", signingError(err)
 	}
 	return token, nil
@@ -227,17 +176,6 @@ func (s *signing) sign(message []byte) ([]byte, error) {
 		return signature, err
 	}
 	return ECDSASignature(signature, s.algorithm)
-}
-
-// verify has the library verify the signature of a token.
-func (s *signing) verify(token string) error {
-	one, err := s.verifying.take()
-	if err != nil {
-		return err
-	}
-	err = one.verifySignature(token)
-	s.verifying.idle.Put(one)
-	return err
 }
 
 // JWK returns the JSON Web Key of the public key, with its alg and the kid of WithKeyID: an element of "keys" in the set that the issuer

@@ -207,18 +207,18 @@ func TestSignerSlips(t *testing.T) {
 	}
 }
 
-// TestHeadersOfSigner has headers that the library does not read: no token is returned, and the error names the member.
+// TestHeadersOfSigner has headers that the library does not read: no token is returned.
 func TestHeadersOfSigner(t *testing.T) {
 	for _, it := range []struct {
 		name  string
 		value any
 		cause string
 	}{
-		{"kid", 5, "the header's kid is of another type"},
-		{"crit", "x", "the header's crit is of another type"},
-		{"crit", []any{5}, "a member of the header"},
-		{"jwk", "x", "the header's jwk is of another type"},
-		{"a", 1.5, `the header's "a" has a number`},
+		{"kid", 5, "a header parameter is of another type"},
+		{"crit", "x", "a header parameter is of another type"},
+		{"crit", []any{5}, "a header parameter is of another type"},
+		{"jwk", "x", "a header parameter is of another type"},
+		{"a", json.RawMessage(`{"b":1,"b":2}`), "is there twice"},
 	} {
 		made, err := NewSigner(&lying{edKey.Public(), nil}, "EdDSA", WithHeader(it.name, it.value))
 		if err != nil {
@@ -294,7 +294,7 @@ func TestClaimsOfSigner(t *testing.T) {
 	if err != nil {
 		t.Fatal(err)
 	}
-	for _, it := range []any{nil, 5, "text", []any{}, make(chan int), map[string]any{"a": "\xff"}, json.RawMessage(`{`), func() {}} {
+	for _, it := range []any{nil, 5, "text", []any{}, make(chan int), map[string]any{"a": "\xff"}, json.RawMessage(`{`), json.RawMessage(nil), []byte(nil), []byte("text"), func() {}} {
 		if token, err := made.Sign(it); token != "" || !errors.Is(err, ErrOption) {
 			t.Errorf("%v: %q, %v", it, token, err)
 		}
@@ -371,7 +371,10 @@ func TestTimesOfClaims(t *testing.T) {
 		{map[int]time.Duration{5: 5}, ""},
 		{map[string]string{"iat": "1700000000"}, `the claim iat is "1700000000", `},
 		{json.RawMessage(`{"exp":1,"\u0065xp":null}`), "the claim exp is null"},
-		{json.RawMessage(`{"exp":null,"exp":1,"Exp":null,"a":{"exp":null}}`), ""},
+		{json.RawMessage(`{"exp":null,"exp":1}`), "have a name twice"},
+		{json.RawMessage(`{"exp":1,"Exp":null,"a":{"exp":null}}`), ""},
+		{[]byte(`{"exp":null}`), "the claim exp is null"},
+		{[]byte(`{"nbf":1.0}`), "the claim nbf is 1.0"},
 	}
 	for _, made := range []func(any) any{in("exp"), in("nbf"), in("iat")} {
 		for value, cause := range map[any]string{

@@ -10,49 +10,76 @@ import (
 	"sync/atomic"
 )
 
-// Verifier verifies tokens with one key and the same conditions.
+// Verifier verifies tokens with one key and the same conditions, or with those of ByIssuer.
 type Verifier struct{ made *verifying }
 
 type verifying struct {
 	asked    *options
-	options  []byte
 	prepared preparedSize
-	set      *KeySet // nil for a key that stays
-	current  atomic.Pointer[handleSet]
-}
-
-// handleSet has the handles for a set that was fetched, or the reason for which there are none. For other keys there is no set.
-type handleSet struct {
-	set     *fetched
-	handles *handles
-	err     error
+	set      *KeySet                 // nil for a key that stays
+	issuers  map[string]*verifying   // of ByIssuer
+	current  atomic.Pointer[handles] // nil before the first call
 }
 
 // handles are those of the same keys and options, of which each call has one for itself: an idle one, or a new one of the first. The
 // garbage collector lets idle ones go, and a finalizer frees them.
 type handles struct {
-	mutex sync.Mutex // of first
-	first *handle
-	idle  sync.Pool
+	set    *fetched      // that the keys are of, or nil for other keys
+	either []alternative // of ByIssuer
+	joined []*options    // of ByIssuer: those of each verifier that has handles
+	err    error         // why there are none
+	mutex  sync.Mutex    // of first
+	first  *handle
+	idle   sync.Pool
+}
+
+// newHandles returns handles of keys, or of the set that the keys are of.
+func newHandles(set *fetched, by *keys, options []byte, prepared preparedSize) *handles {
+	made := &handles{set: set}
+	made.first, made.err = newHandle(by, options, prepared)
+	if set != nil && set.isEmpty && isStatus(made.err, noUsableKey) {
+		made.err = &joinedError{ErrFetch, made.err, errNotFetched.Error()}
+	}
+	return made
 }
 
 func (h *handles) take() (*handle, error) {
 	if it, is := h.idle.Get().(*handle); is {
 		return it, nil
 	}
+	if h.err != nil {
+		return nil, h.err
+	}
 	h.mutex.Lock()
 	defer h.mutex.Unlock()
 	return h.first.share()
 }
 
-func (h *handles) decode(token string, now uint64) (*Token, error) {
+func (h *handles) decode(token string, now uint64, asked *options) (*Token, error) {
 	one, err := h.take()
 	if err != nil {
 		return nil, err
 	}
-	claims, err := one.decode(token, now)
+	verified, status := one.decode(token, now)
+	said := one.said
 	h.idle.Put(one)
-	return claims, err
+	if verified != nil {
+		return verified, nil
+	}
+	if h.joined != nil {
+		asked = h.joined[said.verifier]
+	}
+	return nil, asked.tokenRefusal(status, said, token)
+}
+
+func (h *handles) attach(message, signature []byte) (string, error) {
+	one, err := h.take()
+	if err != nil {
+		return "", err
+	}
+	token, err := one.attach(message, signature)
+	h.idle.Put(one)
+	return token, err
 }
 
 // Format shows neither the key nor the options, whatever the verb.
@@ -68,18 +95,18 @@ func NewVerifier(key Key, algorithms []string, opts ...Option) (*Verifier, error
 }
 
 func newVerifier(key Key, algorithms []string, opts []Option, prepared preparedSize) (*Verifier, error) {
-	asked, text, err := listed(algorithms, opts)
+	asked, err := listed(algorithms, opts)
 	if err != nil {
 		return nil, err
 	}
 	if key.keys == nil {
 		return nil, keyError("there is none")
 	}
-	made := &verifying{asked: asked, options: text, prepared: prepared}
+	made := &verifying{asked: asked, prepared: prepared}
 	if key.set != nil {
 		made.set = key.set()
 	} else {
-		made.current.Store(newHandleSet(nil, key.keys(), text, prepared))
+		made.current.Store(newHandles(nil, key.keys(), asked.text, prepared))
 	}
 	switch it := made.latest(); {
 	case errors.Is(it.err, ErrOption):
@@ -104,9 +131,14 @@ func (v *Verifier) Parse(token string) (*Token, error) {
 // verify returns the claims of a token. If the set of a KeySet has no key of its kid, a later set decides.
 func (v *verifying) verify(token string) (*Token, error) {
 	by := v.latest()
-	claims, err := v.verifyBy(by, token)
-	if err == nil || v.set == nil || !mayHaveLaterKey(token, err) {
-		return claims, err
+	verified, err := v.verifyBy(by, token)
+	switch {
+	case err == nil:
+		return verified, nil
+	case v.issuers != nil:
+		return v.verifyByIssuer(by, token, err)
+	case v.set == nil || !mayHaveLaterKey(token, err):
+		return nil, err
 	}
 	later, failure := v.set.after(by.set)
 	if failure != nil {
@@ -118,48 +150,42 @@ func (v *verifying) verify(token string) (*Token, error) {
 	return v.verifyBy(v.latest(), token)
 }
 
-func (v *verifying) verifyBy(by *handleSet, token string) (*Token, error) {
-	if by.err != nil {
-		return nil, by.err
-	}
+func (v *verifying) verifyBy(by *handles, token string) (*Token, error) {
 	now, err := moment(v.asked.now)
 	if err != nil {
 		return nil, err
 	}
-	verified, err := by.handles.decode(token, now)
-	if err != nil {
-		return nil, err
-	}
-	if err := v.asked.checkIssued((*verified.has).claims, now); err != nil {
-		return nil, err
-	}
-	return verified, nil
+	return by.decode(token, now, v.asked)
 }
 
 // mayHaveLaterKey returns whether a token names a key that the set does not have. A set without a key for the algorithms has no key of
 // the token either.
 func mayHaveLaterKey(token string, err error) bool {
-	if !isStatus(err, noKey) && !isStatus(err, noUsableKey) {
+	var refused *Error
+	switch {
+	case !errors.As(err, &refused):
 		return false
+	case refused.Status == noUsableKey:
+		_, isThere := kidIn(token)
+		return isThere
 	}
-	header, err := unverified(token, headerPart)
-	if err != nil {
-		return false
-	}
-	_, isThere := stringOf(header, "kid")
-	return isThere
+	return refused.hasKid
 }
 
-// latest returns the handles for the last set that was fetched, or for a key that stays.
-func (v *verifying) latest() *handleSet {
+// latest returns the handles for the last set that was fetched, for a key that stays, or for the verifiers of ByIssuer.
+func (v *verifying) latest() *handles {
 	it := v.current.Load()
-	if v.set == nil || it != nil && it.set == v.set.current.Load() {
+	if v.isLatest(it) {
 		return it
 	}
-	if set := v.set.current.Load(); v.prepared == forOneToken {
-		it = newHandleSet(set, set.keys, v.options, v.prepared)
-	} else {
-		it = set.handles(v.options)
+	switch {
+	case v.issuers != nil:
+		it = joined(it.either)
+	case v.prepared == forOneToken:
+		set := v.set.current.Load()
+		it = newHandles(set, set.keys, v.asked.text, v.prepared)
+	default:
+		it = v.set.current.Load().handles(v.asked.text)
 	}
 	if !errors.Is(it.err, ErrOutOfMemory) {
 		v.current.Store(it)
@@ -167,26 +193,9 @@ func (v *verifying) latest() *handleSet {
 	return it
 }
 
-// newHandleSet returns handles of keys, or of the set that the keys are of.
-func newHandleSet(set *fetched, by *keys, options []byte, prepared preparedSize) *handleSet {
-	it := &handleSet{set: set}
-	it.handles, it.err = newHandles(by, options, defaultLength, prepared)
-	if set != nil && set.isEmpty && isStatus(it.err, noUsableKey) {
-		it.err = &joinedError{ErrFetch, it.err, errNotFetched.Error()}
+func (v *verifying) isLatest(it *handles) bool {
+	if v.issuers != nil {
+		return it.areLatest()
 	}
-	return it
-}
-
-// isStatus returns whether an error is the refusal of this number.
-func isStatus(err error, status uint32) bool {
-	var refused *Error
-	return errors.As(err, &refused) && refused.Status == status
-}
-
-func newHandles(by *keys, options []byte, longest tokenLength, prepared preparedSize) (*handles, error) {
-	first, err := newHandle(by, options, longest, prepared)
-	if err != nil {
-		return nil, err
-	}
-	return &handles{first: first}, nil
+	return v.set == nil || it != nil && it.set == v.set.current.Load()
 }

@@ -2,6 +2,6 @@ module example
 
 go 1.19
 
-require curbsorrel.example/jwt v0.1.0
+require curbsorrel.example/jwt v0.2.0
 
 replace curbsorrel.example/jwt => ../
