@@ -2,26 +2,42 @@
 
 use crate::base64::{self, STANDARD, URL_SAFE};
 use crate::errors::{Error, ErrorKind, Result};
-use crate::library::calls;
-use crate::library::keys::{Keys, Source};
-use crate::{AlgorithmFamily, Header, SigningInput, pem, signing};
+use crate::library::keys::{KeyBytes, Keys, Source};
+use crate::signing::PrivateKey;
+use crate::{AlgorithmFamily, Header, SigningInput, pem};
 use serde::Serialize;
 use std::fmt;
+use std::sync::Arc;
 
-/// A key that tokens are signed by: a secret, or a private key in DER. Its bytes are overwritten when it is dropped.
+/// A key that tokens are signed by: a secret, or a private key in DER, which is read once. Its bytes are overwritten when it is dropped.
 ///
 /// A key that does not serve, such as an empty secret, is made all the same, and refused when it is used.
 #[derive(Clone)]
 pub struct EncodingKey {
     family: AlgorithmFamily,
-    bytes: Vec<u8>,
-    /// The status with which the library refuses the secret, if it does.
-    refused: Option<u32>,
+    bytes: KeyBytes,
+    read: Read,
+}
+
+/// What was read of a key, or why it is refused when it is used.
+type Read = std::result::Result<Signs, ErrorKind>;
+
+#[derive(Clone)]
+enum Signs {
+    Secret(Arc<Keys>),
+    Private(Arc<PrivateKey>),
 }
 
 impl EncodingKey {
     fn new(family: AlgorithmFamily, bytes: &[u8]) -> EncodingKey {
-        EncodingKey { family, bytes: bytes.to_vec(), refused: None }
+        let read = match family {
+            AlgorithmFamily::Hmac => {
+                let keys = Keys::new(Source::Secret, bytes).map_err(Error::from_key_status);
+                keys.map(|it| Signs::Secret(Arc::new(it)))
+            }
+            _ => PrivateKey::new(family, bytes).map(|it| Signs::Private(Arc::new(it))),
+        };
+        EncodingKey { family, bytes: KeyBytes(bytes.to_vec()), read: read.map_err(Error::into_kind) }
     }
 
     /// Returns the family of algorithms that the key is for.
@@ -33,9 +49,7 @@ impl EncodingKey {
     /// Returns a secret as a key, for HS256, HS384 and HS512.
     #[must_use]
     pub fn from_secret(secret: &[u8]) -> Self {
-        let mut key = EncodingKey::new(AlgorithmFamily::Hmac, secret);
-        key.refused = Keys::new(Source::Secret, secret).err();
-        key
+        EncodingKey::new(AlgorithmFamily::Hmac, secret)
     }
 
     /// Returns a secret as a key, from base64 with padding.
@@ -60,27 +74,27 @@ impl EncodingKey {
     ///
     /// # Errors
     ///
-    /// Another text is [`ErrorKind::InvalidKeyFormat`].
+    /// Another text is [`ErrorKind::InvalidKeyFormat`]. Without the feature `openssl` this is [`ErrorKind::Provider`].
     pub fn from_rsa_pem(key: &[u8]) -> Result<Self> {
-        from_pem(AlgorithmFamily::Rsa, key, "RSA PRIVATE KEY")
+        from_pem(AlgorithmFamily::Rsa, key)
     }
 
     /// Returns a private key on P-256 or P-384 as a key, from PEM of PKCS #8 or of RFC 5915.
     ///
     /// # Errors
     ///
-    /// Another text is [`ErrorKind::InvalidKeyFormat`].
+    /// Returns the errors of [`EncodingKey::from_rsa_pem`].
     pub fn from_ec_pem(key: &[u8]) -> Result<Self> {
-        from_pem(AlgorithmFamily::Ec, key, "EC PRIVATE KEY")
+        from_pem(AlgorithmFamily::Ec, key)
     }
 
     /// Returns a private Ed25519 key as a key, from PEM of PKCS #8.
     ///
     /// # Errors
     ///
-    /// Another text is [`ErrorKind::InvalidKeyFormat`].
+    /// Returns the errors of [`EncodingKey::from_rsa_pem`].
     pub fn from_ed_pem(key: &[u8]) -> Result<Self> {
-        from_pem(AlgorithmFamily::Ed, key, "PRIVATE KEY")
+        from_pem(AlgorithmFamily::Ed, key)
     }
 
     /// Returns a private RSA key as a key, from DER of PKCS #1 or PKCS #8.
@@ -104,38 +118,38 @@ impl EncodingKey {
     /// Returns the bytes of the key.
     #[must_use]
     pub fn as_bytes(&self) -> &[u8] {
-        &self.bytes
+        &self.bytes.0
     }
-}
 
-impl Drop for EncodingKey {
-    fn drop(&mut self) {
-        calls::overwrite(&mut self.bytes);
+    fn read(&self) -> Result<&Signs> {
+        self.read.as_ref().map_err(|it| it.clone().into())
+    }
+
+    /// Returns the key as OpenSSL has read it, also if it is a secret.
+    pub(crate) fn private(&self) -> Result<Arc<PrivateKey>> {
+        match self.read()? {
+            Signs::Secret(_) => PrivateKey::new(self.family, self.as_bytes()).map(Arc::new),
+            Signs::Private(key) => Ok(Arc::clone(key)),
+        }
     }
 }
 
 impl fmt::Debug for EncodingKey {
     fn fmt(&self, f: &mut fmt::Formatter<'_>) -> fmt::Result {
-        f.debug_struct("EncodingKey")
-            .field("family", &self.family)
-            .field("bytes", &"[redacted]")
-            .finish_non_exhaustive()
+        write!(f, "EncodingKey({:?}, [redacted])", self.family)
     }
 }
 
-/// Returns the key of a text in PEM, of PKCS #8 and this family or with the family's own label.
-fn from_pem(family: AlgorithmFamily, text: &[u8], own: &str) -> Result<EncodingKey> {
-    let mut block = pem::first(text).ok_or(ErrorKind::InvalidKeyFormat)?;
-    let is_of_family = match block.label.as_str() {
-        "PRIVATE KEY" => pem::private_key(&block.der).map_or(false, |it| it.0 == family),
-        label => label == own,
-    };
-    let key = EncodingKey::new(family, &block.der);
-    calls::overwrite(&mut block.der);
-    if is_of_family { Ok(key) } else { Err(ErrorKind::InvalidKeyFormat.into()) }
+/// Returns the key of a text in PEM, if it is of this family.
+fn from_pem(family: AlgorithmFamily, text: &[u8]) -> Result<EncodingKey> {
+    let der = KeyBytes(pem::first(text).ok_or(ErrorKind::InvalidKeyFormat)?);
+    let key = EncodingKey::new(family, &der.0);
+    key.read()?;
+    Ok(key)
 }
 
-/// Returns the token of claims, signed by a key.
+/// Returns the token of claims, signed by a key. What serde writes of the header and of the claims is signed byte for byte: the order of
+/// the members and the digits of numbers stay.
 ///
 /// HS256, HS384 and HS512 are signed by the library. The others need the feature `openssl`: OpenSSL signs, and the library verifies the
 /// signature before the token is returned. [`encode_with`](crate::encode_with) has a signer of yours.
@@ -143,20 +157,21 @@ fn from_pem(family: AlgorithmFamily, text: &[u8], own: &str) -> Result<EncodingK
 /// # Errors
 ///
 /// An algorithm of another family than the key's is [`ErrorKind::InvalidAlgorithm`], and one that the features lack
-/// [`ErrorKind::Provider`]; a secret that others may know is [`ErrorKind::UnusableKey`]. Claims that can't be written, or are no object,
-/// or have a float, are [`ErrorKind::Json`]. A private key that can't be read is [`ErrorKind::InvalidKeyFormat`], and one whose signature
-/// does not verify [`ErrorKind::Signing`].
+/// [`ErrorKind::Provider`]; a secret that others may know is [`ErrorKind::UnusableKey`]. Claims that can't be written, are not an object,
+/// or have a name twice are [`ErrorKind::Json`]. A private key that can't be read is [`ErrorKind::InvalidKeyFormat`], and one whose
+/// signature does not verify [`ErrorKind::Signing`].
 pub fn encode<T: Serialize>(header: &Header, claims: &T, key: &EncodingKey) -> Result<String> {
     if header.alg.family() != key.family {
         return Err(ErrorKind::InvalidAlgorithm.into());
     }
-    if key.family != AlgorithmFamily::Hmac {
-        let input = SigningInput::new(header, claims)?;
-        return input.encode_verified(&signing::sign(key, header.alg, input.message())?, &signing::verifying_key(key)?);
+    match key.read()? {
+        Signs::Secret(secret) => {
+            let token = secret.sign(&serde_json::to_vec(header)?, &serde_json::to_vec(claims)?);
+            token.map_err(Error::from_issue_status)
+        }
+        Signs::Private(key) => {
+            let input = SigningInput::new(header, claims)?;
+            input.encode_verified(&key.sign(header.alg, input.message())?, key.public())
+        }
     }
-    if let Some(status) = key.refused {
-        return Err(Error::from_key_status(status));
-    }
-    let [header, claims] = [serde_json::to_string(header)?, serde_json::to_string(claims)?];
-    calls::encode(&header, &claims, &key.bytes).map_err(Error::from_issue_status)
 }

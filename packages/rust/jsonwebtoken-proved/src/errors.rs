@@ -3,7 +3,7 @@
 use crate::base64::Base64Error;
 use crate::library::calls::{self, Of};
 use crate::library::keys::{self, SkippedKey};
-use crate::status;
+use crate::{Algorithm, status};
 use serde::de::Error as _;
 use std::error::Error as StdError;
 use std::fmt;
@@ -13,7 +13,7 @@ use std::sync::Arc;
 /// The result of a call that can fail.
 pub type Result<T> = std::result::Result<T, Error>;
 
-/// The reason for which there is no result.
+/// Why there is no result.
 #[derive(Clone, Debug, Eq, PartialEq)]
 pub struct Error(Box<ErrorKind>);
 
@@ -30,8 +30,8 @@ impl Error {
         *self.0
     }
 
-    /// Returns whether this error of a call that verifies says that the token is refused, so that its sender is answered with 401. All
-    /// other errors are those of a key, of an argument, or of an outage: they say nothing about the token.
+    /// Returns whether a call that verifies has refused the token: respond with 401. Any other error is about a key, an argument or an
+    /// outage, and not about the token.
     #[must_use]
     pub fn is_refusal(&self) -> bool {
         matches!(
@@ -64,10 +64,21 @@ impl Error {
     /// Returns the error of a status of a call that issues a token.
     pub(crate) fn from_issue_status(status: u32) -> Error {
         match status {
-            status::JSON | status::BAD_CLAIMS => {
-                json_error("claims to sign have to be an object without floats").into()
+            status::BAD_CLAIMS => json_error("claims to sign must be an object with each name once").into(),
+            status::BAD_HEADER => json_error("the header has a float, a name twice, or a malformed member").into(),
+            _ => Error::from_status(status),
+        }
+    }
+
+    /// Returns the error of a status of a call that tests a signature with this algorithm.
+    pub(crate) fn from_signature_status(status: u32, algorithm: Algorithm) -> Error {
+        match status {
+            status::INVALID_ALGORITHM | status::INVALID_KEY_FORMAT => {
+                ErrorKind::UnusableKey(format!("it does not verify with {algorithm}")).into()
             }
-            status::BAD_HEADER => json_error("the header has a float, or a member of another form").into(),
+            status::INVALID_SIGNATURE => {
+                ErrorKind::Signing("the signature does not verify by the public key".to_string()).into()
+            }
             _ => Error::from_status(status),
         }
     }
@@ -76,7 +87,7 @@ impl Error {
     pub(crate) fn from_key_status(status: u32) -> Error {
         match kind_of(status) {
             ErrorKind::Provider(_) => ErrorKind::UnusableKey("it is a private key".to_string()),
-            ErrorKind::Json(_) | ErrorKind::InvalidToken => ErrorKind::UnusableKey(text_of(status)),
+            ErrorKind::InvalidToken => ErrorKind::UnusableKey(text_of(status)),
             ErrorKind::Base64(_) => ErrorKind::Base64(Base64Error::OF_KEY),
             kind => kind,
         }
@@ -91,12 +102,9 @@ impl Error {
         }
     }
 
-    /// Returns the error of a status of the call that makes a verifier of keys, of which these are skipped.
-    pub(crate) fn from_verifier_status(status: u32, skipped: &[SkippedKey]) -> Error {
-        if status != status::NO_USABLE_KEY {
-            return Error::from_key_status(status);
-        }
-        let why = format!("{}, and of a set only keys with a kid count", text_of(status));
+    /// Returns the error of keys that fit no algorithm, with the reasons of the skipped ones.
+    pub(crate) fn no_usable_key(skipped: &[SkippedKey]) -> Error {
+        let why = format!("{}, and of a set only keys with a kid count", text_of(status::NO_USABLE_KEY));
         let reasons = keys::reasons(skipped);
         ErrorKind::UnusableKey(if skipped.is_empty() { why } else { format!("{why}; {reasons}") }).into()
     }
@@ -109,40 +117,29 @@ fn text_of(status: u32) -> String {
 }
 
 /// Returns an error of JSON that the library does not take.
-pub(crate) fn json_error(text: impl fmt::Display) -> ErrorKind {
+fn json_error(text: impl fmt::Display) -> ErrorKind {
     ErrorKind::Json(Arc::new(serde_json::Error::custom(text)))
 }
 
+/// The claims with a status each, in the order of the statuses.
+const CLAIMS: [&str; 5] = ["exp", "nbf", "aud", "iss", "sub"];
+
 fn kind_of(status: u32) -> ErrorKind {
-    let missing = |name: &str| ErrorKind::MissingRequiredClaim(name.to_string());
-    let malformed = |name: &str| ErrorKind::InvalidClaimFormat(name.to_string());
+    let claim = |first: u32| CLAIMS[(status - first) as usize].to_string();
     match status {
         status::INVALID_SIGNATURE => ErrorKind::InvalidSignature,
-        status::INVALID_ECDSA_KEY => ErrorKind::InvalidEcdsaKey,
-        status::INVALID_EDDSA_KEY => ErrorKind::InvalidEddsaKey,
-        status::INVALID_RSA_KEY => ErrorKind::InvalidRsaKey(text_of(status)),
-        status::RSA_FAILED_SIGNING => ErrorKind::RsaFailedSigning,
         status::SIGNING => ErrorKind::Signing("the signature does not have a length of its algorithm".to_string()),
         status::INVALID_ALGORITHM_NAME => ErrorKind::InvalidAlgorithmName,
         status::UNSUPPORTED_ALGORITHM => ErrorKind::UnsupportedAlgorithm,
         status::INVALID_KEY_FORMAT => ErrorKind::InvalidKeyFormat,
         status::INVALID_ALGORITHM => ErrorKind::InvalidAlgorithm,
-        status::MISSING_ALGORITHM => ErrorKind::MissingAlgorithm,
         status::EXPIRED_SIGNATURE => ErrorKind::ExpiredSignature,
         status::IMMATURE_SIGNATURE => ErrorKind::ImmatureSignature,
         status::INVALID_ISSUER => ErrorKind::InvalidIssuer,
         status::INVALID_AUDIENCE => ErrorKind::InvalidAudience,
         status::INVALID_SUBJECT => ErrorKind::InvalidSubject,
-        status::MISSING_EXP => missing("exp"),
-        status::MISSING_NBF => missing("nbf"),
-        status::MISSING_AUD => missing("aud"),
-        status::MISSING_ISS => missing("iss"),
-        status::MISSING_SUB => missing("sub"),
-        status::MALFORMED_EXP => malformed("exp"),
-        status::MALFORMED_NBF => malformed("nbf"),
-        status::MALFORMED_AUD => malformed("aud"),
-        status::MALFORMED_ISS => malformed("iss"),
-        status::MALFORMED_SUB => malformed("sub"),
+        status::MISSING_EXP..=status::MISSING_SUB => ErrorKind::MissingRequiredClaim(claim(status::MISSING_EXP)),
+        status::MALFORMED_EXP..=status::MALFORMED_SUB => ErrorKind::InvalidClaimFormat(claim(status::MALFORMED_EXP)),
         status::BASE64 => ErrorKind::Base64(Base64Error::OF_TOKEN),
         status::JSON => json_error("the header is not one, or the claims are not an object"),
         status::PROVIDER => ErrorKind::Provider(text_of(status)),
@@ -150,7 +147,6 @@ fn kind_of(status: u32) -> ErrorKind {
         status::NO_KEY => ErrorKind::NoKey,
         status::TOKEN_TOO_LONG => ErrorKind::TokenTooLong,
         status::OUT_OF_MEMORY => ErrorKind::OutOfMemory,
-        status::CLOCK_BEFORE_EPOCH => ErrorKind::ClockBeforeEpoch,
         status::BAD_KEY
         | status::ALL_ZERO_SECRET
         | status::KEY_AS_SECRET
@@ -168,7 +164,7 @@ fn kind_of(status: u32) -> ErrorKind {
 pub enum ErrorKind {
     /// The text is not a token: it does not have three parts with dots between them, or its `exp` is 0.
     InvalidToken,
-    /// The signature is not that of the token by the key.
+    /// The key did not sign this token.
     InvalidSignature,
     /// The key is not one for ECDSA.
     InvalidEcdsaKey,
@@ -180,7 +176,7 @@ pub enum ErrorKind {
     RsaFailedSigning,
     /// The signing failed, or gave a signature that does not verify: the reason.
     Signing(String),
-    /// The name is not that of an algorithm.
+    /// No algorithm has this name.
     InvalidAlgorithmName,
     /// The key is of a kind that is not supported.
     UnsupportedAlgorithm,
@@ -192,25 +188,26 @@ pub enum ErrorKind {
     InvalidClaimFormat(String),
     /// The `exp` is not after now, less the leeway (RFC 7519 section 4.1.4).
     ExpiredSignature,
-    /// The `iss` has none of the accepted issuers.
+    /// The `iss` is not an accepted issuer.
     InvalidIssuer,
-    /// The `aud` has none of the accepted audiences.
+    /// The `aud` does not name an accepted audience.
     InvalidAudience,
     /// The `sub` is another.
     InvalidSubject,
-    /// The `nbf` is after now and the leeway (RFC 7519 section 4.1.5).
+    /// The `nbf`, or the `iat`, is after now and the leeway (RFC 7519 sections 4.1.5 and 4.1.6). If it is the `iat`, the failed test is
+    /// `FurtherRulesHold`.
     ImmatureSignature,
-    /// The token's algorithm is not among those that are accepted, or the key is of another family.
+    /// The token's algorithm is not accepted, or the key is of another family.
     InvalidAlgorithm,
     /// No algorithm is accepted.
     MissingAlgorithm,
     /// A text is not base64, or a part of a token not base64url.
     Base64(Base64Error),
-    /// The header or the claims can't be read or written, or are not those of the type that was asked for.
+    /// The header or the claims can't be read or written, or do not match the type.
     Json(Arc<serde_json::Error>),
     /// A text is not UTF-8.
     Utf8(FromUtf8Error),
-    /// There is no signer for the algorithm, or it can't do what it was asked to: the reason.
+    /// There is no signer for the algorithm, or it can't sign this: the reason.
     Provider(String),
     /// The header's `crit` names a member that is not understood (RFC 7515 section 4.1.11).
     InvalidCrit,
@@ -232,79 +229,31 @@ pub enum ErrorKind {
     ClockBeforeEpoch,
 }
 
-/// Two kinds are equal if their names and their texts are.
+/// Compares the texts of `Debug`.
 impl PartialEq for ErrorKind {
     fn eq(&self, other: &ErrorKind) -> bool {
-        std::mem::discriminant(self) == std::mem::discriminant(other) && self.detail() == other.detail()
+        format!("{self:?}") == format!("{other:?}")
     }
 }
 
 impl Eq for ErrorKind {}
 
-impl ErrorKind {
-    /// Returns the text that a kind holds, if any.
-    fn detail(&self) -> String {
-        match self {
-            ErrorKind::InvalidRsaKey(text)
-            | ErrorKind::Signing(text)
-            | ErrorKind::MissingRequiredClaim(text)
-            | ErrorKind::InvalidClaimFormat(text)
-            | ErrorKind::Provider(text)
-            | ErrorKind::UnusableKey(text)
-            | ErrorKind::InvalidArgument(text) => text.clone(),
-            ErrorKind::Base64(error) => error.to_string(),
-            ErrorKind::Json(error) => error.to_string(),
-            ErrorKind::Utf8(error) => error.to_string(),
-            ErrorKind::Fetch(cause) => cause.to_string(),
-            _ => String::new(),
-        }
-    }
-
-    /// Returns what the kind says, without its text.
-    fn words(&self) -> &'static str {
-        match self {
-            ErrorKind::InvalidToken => "the text is not a token",
-            ErrorKind::InvalidSignature => "the signature is wrong",
-            ErrorKind::InvalidEcdsaKey => "the key is not one for ECDSA",
-            ErrorKind::InvalidEddsaKey => "the key is not one for EdDSA",
-            ErrorKind::InvalidRsaKey(_) => "the key is not one for RSA",
-            ErrorKind::RsaFailedSigning | ErrorKind::Signing(_) => "the signing failed",
-            ErrorKind::InvalidAlgorithmName => "the name is not that of an algorithm",
-            ErrorKind::UnsupportedAlgorithm => "the key is of a kind that is not supported",
-            ErrorKind::InvalidKeyFormat => "the key can't be read, or does not serve",
-            ErrorKind::MissingRequiredClaim(_) => "a required claim is missing or malformed",
-            ErrorKind::InvalidClaimFormat(_) => "a claim is malformed",
-            ErrorKind::ExpiredSignature => "the token has expired",
-            ErrorKind::InvalidIssuer => "the issuer is not accepted",
-            ErrorKind::InvalidAudience => "the audience is not accepted",
-            ErrorKind::InvalidSubject => "the subject is another",
-            ErrorKind::ImmatureSignature => "the token is not valid yet",
-            ErrorKind::InvalidAlgorithm => "the algorithm is not accepted",
-            ErrorKind::MissingAlgorithm => "no algorithm is accepted",
-            ErrorKind::Base64(_) => "a text is not base64",
-            ErrorKind::Json(_) => "JSON is not as expected",
-            ErrorKind::Utf8(_) => "a text is not UTF-8",
-            ErrorKind::Provider(_) => "there is no signer",
-            ErrorKind::InvalidCrit => "crit is not understood",
-            ErrorKind::NoKey => "the set has no such key",
-            ErrorKind::TokenTooLong => "the token is too long",
-            ErrorKind::UnusableKey(_) => "the key does not serve",
-            ErrorKind::InvalidArgument(_) => "an argument is not understood",
-            ErrorKind::Fetch(_) => "the set of keys can't be fetched",
-            ErrorKind::Fetching => "the set of keys is being fetched",
-            ErrorKind::OutOfMemory => "out of memory",
-            ErrorKind::ClockBeforeEpoch => "the system clock is before 1970-01-01",
-        }
-    }
-}
-
+/// Writes the name of the kind, or a text and what the kind holds. The error that a kind holds is the source.
 impl fmt::Display for Error {
     fn fmt(&self, f: &mut fmt::Formatter<'_>) -> fmt::Result {
-        let words = self.kind().words();
-        match self.kind().detail() {
-            // the source has the text
-            text if text.is_empty() || self.source().is_some() => f.write_str(words),
-            text => write!(f, "{words}: {text}"),
+        match self.kind() {
+            ErrorKind::MissingRequiredClaim(name) => write!(f, "Missing required claim: {name}"),
+            ErrorKind::InvalidClaimFormat(name) => write!(f, "Invalid format for claim: {name}"),
+            ErrorKind::InvalidRsaKey(why) => write!(f, "RSA key invalid: {why}"),
+            ErrorKind::Signing(why) => write!(f, "Signing failed: {why}"),
+            ErrorKind::Provider(why) => write!(f, "Custom provider error: {why}"),
+            ErrorKind::UnusableKey(why) => write!(f, "Unusable key: {why}"),
+            ErrorKind::InvalidArgument(why) => write!(f, "Invalid argument: {why}"),
+            ErrorKind::Base64(_) => f.write_str("Base64 error"),
+            ErrorKind::Json(_) => f.write_str("JSON error"),
+            ErrorKind::Utf8(_) => f.write_str("UTF-8 error"),
+            ErrorKind::Fetch(_) => f.write_str("Key set not fetched"),
+            kind => write!(f, "{kind:?}"),
         }
     }
 }
@@ -346,7 +295,7 @@ impl From<Base64Error> for Error {
 }
 
 /// The error of another crate that an [`ErrorKind::Fetch`] comes from.
-#[derive(Clone)]
+#[derive(Clone, Debug)]
 pub struct Cause(Arc<dyn StdError + Send + Sync>);
 
 impl Cause {
@@ -358,12 +307,6 @@ impl Cause {
     #[must_use]
     pub fn get(&self) -> &(dyn StdError + Send + Sync + 'static) {
         &*self.0
-    }
-}
-
-impl fmt::Debug for Cause {
-    fn fmt(&self, f: &mut fmt::Formatter<'_>) -> fmt::Result {
-        fmt::Debug::fmt(&self.0, f)
     }
 }
 

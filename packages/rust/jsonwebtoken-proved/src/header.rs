@@ -79,12 +79,8 @@ pub struct Extras {
     fault: Option<String>,
 }
 
-/// The names of the members of a [`Header`].
-const NAMED: [&str; 15] =
-    ["typ", "alg", "cty", "jku", "jwk", "kid", "x5u", "x5c", "x5t", "x5t#S256", "crit", "enc", "zip", "url", "nonce"];
-
 impl Extras {
-    /// Returns the member of this name, if there is one.
+    /// Returns the member of this name, if it is there.
     ///
     /// # Errors
     ///
@@ -96,16 +92,12 @@ impl Extras {
         Ok(self.members.get(key).map(T::deserialize).transpose()?)
     }
 
-    /// Sets the member of this name. A value that can't be written, and a name that [`Header`] has a field for, make signing fail.
+    /// Sets the member of this name. A value that can't be written makes signing fail, and so does a name whose field of [`Header`] is set.
     pub fn insert<T>(&mut self, key: impl Into<String>, value: T)
     where
         T: Serialize,
     {
         let key = key.into();
-        if NAMED.contains(&key.as_str()) {
-            self.fault = Some(format!("{key} is a field of the header"));
-            return;
-        }
         match serde_json::to_value(value) {
             Ok(value) => drop(self.members.insert(key, value)),
             Err(error) => self.fault = Some(format!("{key} can't be written: {error}")),
@@ -180,8 +172,8 @@ pub struct Header {
     /// The thumbprint of a certificate by SHA-256.
     #[serde(default, skip_serializing_if = "Option::is_none", rename = "x5t#S256")]
     pub x5t_s256: Option<String>,
-    /// The names of members that have to be understood (RFC 7515 section 4.1.11):
-    /// [`understood_crit`](crate::Validation::understood_crit) lists those that are.
+    /// The names of members that readers must understand (RFC 7515 section 4.1.11): [`understood_crit`](crate::Validation::understood_crit)
+    /// lists those that are.
     #[serde(default, skip_serializing_if = "Option::is_none")]
     pub crit: Option<Vec<String>>,
     /// The encryption of the payload.

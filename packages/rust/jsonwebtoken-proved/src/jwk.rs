@@ -5,8 +5,7 @@
 use crate::base64::{self, URL_SAFE};
 use crate::errors::{Error, ErrorKind, Result};
 use crate::header::names;
-use crate::library::keys::{KeyText, Keys, Source};
-use crate::signing;
+use crate::library::keys::{KeyBytes, Keys, Source};
 use crate::{Algorithm, AlgorithmFamily, DecodingKey, DecodingKeyKind, EncodingKey};
 use serde::{Deserialize, Serialize};
 use serde_json::Value;
@@ -89,25 +88,9 @@ pub enum KeyAlgorithm {
     UNKNOWN_ALGORITHM,
 }
 
-/// Pairs of the algorithms that tokens have.
-const OF_TOKENS: [(Algorithm, KeyAlgorithm); 12] = [
-    (Algorithm::HS256, KeyAlgorithm::HS256),
-    (Algorithm::HS384, KeyAlgorithm::HS384),
-    (Algorithm::HS512, KeyAlgorithm::HS512),
-    (Algorithm::ES256, KeyAlgorithm::ES256),
-    (Algorithm::ES384, KeyAlgorithm::ES384),
-    (Algorithm::RS256, KeyAlgorithm::RS256),
-    (Algorithm::RS384, KeyAlgorithm::RS384),
-    (Algorithm::RS512, KeyAlgorithm::RS512),
-    (Algorithm::PS256, KeyAlgorithm::PS256),
-    (Algorithm::PS384, KeyAlgorithm::PS384),
-    (Algorithm::PS512, KeyAlgorithm::PS512),
-    (Algorithm::EdDSA, KeyAlgorithm::EdDSA),
-];
-
 impl From<Algorithm> for KeyAlgorithm {
     fn from(algorithm: Algorithm) -> KeyAlgorithm {
-        OF_TOKENS.iter().find(|it| it.0 == algorithm).map_or(KeyAlgorithm::UNKNOWN_ALGORITHM, |it| it.1)
+        algorithm.to_string().parse().expect("a key can be for each algorithm")
     }
 }
 
@@ -116,8 +99,7 @@ impl TryFrom<KeyAlgorithm> for Algorithm {
     type Error = Error;
 
     fn try_from(algorithm: KeyAlgorithm) -> Result<Algorithm> {
-        let found = OF_TOKENS.iter().find(|it| it.1 == algorithm);
-        found.map(|it| it.0).ok_or_else(|| ErrorKind::UnsupportedAlgorithm.into())
+        algorithm.to_string().parse().map_err(|_| ErrorKind::UnsupportedAlgorithm.into())
     }
 }
 
@@ -187,7 +169,7 @@ pub enum EllipticCurve {
     /// P-384.
     #[serde(rename = "P-384")]
     P384,
-    /// P-521, by which no token is verified.
+    /// P-521, which verifies no token.
     #[serde(rename = "P-521")]
     P521,
     /// Ed25519.
@@ -277,7 +259,7 @@ pub struct OctetKeyPairParameters {
     pub x: String,
 }
 
-/// A key of another kind, of which `Debug` shows the names of the members alone.
+/// A key of another kind. `Debug` shows only the names of its members.
 #[derive(Clone, Default, PartialEq, Eq, Serialize, Deserialize)]
 pub struct OtherKeyParameters {
     /// Its members.
@@ -340,11 +322,11 @@ impl AlgorithmParameters {
 #[non_exhaustive]
 pub enum ThumbprintHash {
     /// SHA-256.
-    SHA256,
+    SHA256 = 256,
     /// SHA-384.
-    SHA384,
+    SHA384 = 384,
     /// SHA-512.
-    SHA512,
+    SHA512 = 512,
 }
 
 /// A JSON Web Key (RFC 7517 section 4).
@@ -369,17 +351,16 @@ impl Jwk {
     ///
     /// # Errors
     ///
-    /// An algorithm of another family is [`ErrorKind::InvalidAlgorithm`]. The public half of a private key needs the feature `openssl`,
-    /// and is [`ErrorKind::Provider`] without it.
+    /// An algorithm of another family is [`ErrorKind::InvalidAlgorithm`]. The public half of a private key needs the feature `openssl`, and
+    /// is [`ErrorKind::Provider`] without it.
     pub fn from_encoding_key(key: &EncodingKey, alg: Algorithm) -> Result<Self> {
         if key.family() != alg.family() {
             return Err(ErrorKind::InvalidAlgorithm.into());
         }
-        let public = match key.family() {
-            AlgorithmFamily::Hmac => DecodingKey::from_secret(key.as_bytes()),
-            _ => signing::verifying_key(key)?,
-        };
-        Jwk::from_decoding_key(&public, Some(alg))
+        match key.family() {
+            AlgorithmFamily::Hmac => Jwk::from_decoding_key(&DecodingKey::from_secret(key.as_bytes()), Some(alg)),
+            _ => Jwk::from_decoding_key(key.private()?.public(), Some(alg)),
+        }
     }
 
     /// Returns the JSON Web Key of a key that verifies, for this algorithm, if any.
@@ -402,18 +383,15 @@ impl Jwk {
     ///
     /// # Errors
     ///
-    /// A key of a kind that has none is [`ErrorKind::UnsupportedAlgorithm`], and one whose curve is not of its kind is
+    /// A key of a kind without a thumbprint is [`ErrorKind::UnsupportedAlgorithm`], and one whose curve is not of its kind is
     /// [`ErrorKind::InvalidKeyFormat`].
     #[allow(clippy::needless_pass_by_value)] // as in the crate jsonwebtoken
     pub fn thumbprint(&self, hash_function: ThumbprintHash) -> Result<String> {
-        let bits = match hash_function {
-            ThumbprintHash::SHA256 => 256,
-            ThumbprintHash::SHA384 => 384,
-            ThumbprintHash::SHA512 => 512,
-        };
         // a key of a set has a thumbprint also if no token is verified with it
-        let set = KeyText(serde_json::to_vec(&BTreeMap::from([("keys", [self])]))?);
-        Keys::new(Source::Text, &set.0).and_then(|it| it.thumbprint(bits)).map_err(Error::from_key_status)
+        let set = KeyBytes(serde_json::to_vec(&BTreeMap::from([("keys", [self])]))?);
+        Keys::new(Source::Text, &set.0)
+            .and_then(|it| it.thumbprint(hash_function as u32))
+            .map_err(Error::from_key_status)
     }
 }
 

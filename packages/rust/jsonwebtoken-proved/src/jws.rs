@@ -24,7 +24,7 @@ pub struct Jws<C> {
 ///
 /// # Errors
 ///
-/// The errors are those of [`encode`](crate::encode()), and a token without claims is [`ErrorKind::Provider`].
+/// Returns the errors of [`encode`](crate::encode()), and a token without claims is [`ErrorKind::Provider`].
 pub fn encode<T: Serialize>(header: &Header, claims: Option<&T>, key: &EncodingKey) -> Result<Jws<T>> {
     let claims = claims.ok_or_else(|| ErrorKind::Provider("a token without claims is not signed".to_string()))?;
     let token = crate::encode(header, claims, key)?;
@@ -37,7 +37,7 @@ pub fn encode<T: Serialize>(header: &Header, claims: Option<&T>, key: &EncodingK
 ///
 /// # Errors
 ///
-/// The errors are those of [`decode`](crate::decode()).
+/// Returns the errors of [`decode`](crate::decode()).
 pub fn decode<T: DeserializeOwned>(jws: &Jws<T>, key: &DecodingKey, validation: &Validation) -> Result<TokenData<T>> {
     crate::decode([jws.protected.as_str(), &jws.payload, &jws.signature].join("."), key, validation)
 }

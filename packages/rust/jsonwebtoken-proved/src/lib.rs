@@ -16,15 +16,17 @@
 //! ```
 //!
 //! Beyond that crate, a [`Verifier`] reads a key, or a key set with keys of several families, and a [`Validation`] once, and verifies many
-//! tokens; a [`KeySet`] fetches keys that rotate, and reports each [`SkippedKey`]; [`Validation::strict`] leaves out the leeway and checks `nbf`; and [`SigningInput`] and [`decode_by_verdict`] take signatures
-//! that are made or checked elsewhere.
+//! tokens; a [`KeySet`] fetches keys that rotate, and reports each [`SkippedKey`]; [`Verifier::by_issuer`] and [`ByIssuer`] verify tokens
+//! of several issuers; [`Validation::strict`] leaves out the leeway and checks `nbf`; and [`SigningInput`] and [`decode_by_verdict`] take
+//! external signatures and external verification.
 #![warn(missing_docs, clippy::pedantic)]
-// names such as EdDSA stand as in the standards, and those of types and calls as in the crate jsonwebtoken
+// names such as EdDSA are the standards' names, and types and calls have the names of the crate jsonwebtoken
 #![allow(clippy::doc_markdown, clippy::module_name_repetitions)]
 #![deny(unsafe_code)]
 
 mod algorithms;
 mod base64;
+mod by_issuer;
 pub mod crypto;
 mod decoding;
 mod encoding;
@@ -45,6 +47,7 @@ mod verifier;
 
 pub use algorithms::{Algorithm, AlgorithmFamily};
 pub use base64::Base64Error;
+pub use by_issuer::ByIssuer;
 pub use decoding::{DecodingKey, DecodingKeyKind, TokenData, decode, decode_header};
 pub use encoding::{EncodingKey, encode};
 pub use header::{Enc, Extras, Header, Zip};
@@ -59,17 +62,4 @@ pub use verifier::{Refusal, Verified, Verifier};
 /// Reads tokens without verifying them.
 pub mod dangerous {
     pub use super::decoding::{insecure_decode, insecure_decode_claims};
-}
-
-#[cfg(test)]
-mod tests {
-    use std::path::{Path, PathBuf};
-
-    /// Returns the text of a file of the repository. In a copy of the crate, JWT_ROWS names a file of the repository.
-    pub fn file_of_repository(path: &str) -> String {
-        let ours = concat!(env!("CARGO_MANIFEST_DIR"), "/../../..");
-        let named =
-            std::env::var("JWT_ROWS").ok().and_then(|it| Path::new(&it).ancestors().nth(4).map(Path::to_path_buf));
-        std::fs::read_to_string(named.unwrap_or_else(|| PathBuf::from(ours)).join(path)).unwrap()
-    }
 }

@@ -5,3 +5,10 @@ pub mod calls;
 mod declared;
 pub mod handle;
 pub mod keys;
+
+use std::sync::{Mutex, MutexGuard, PoisonError};
+
+/// Locks a value, also after a panic of a thread that had it.
+pub fn lock<T>(value: &Mutex<T>) -> MutexGuard<'_, T> {
+    value.lock().unwrap_or_else(PoisonError::into_inner)
+}

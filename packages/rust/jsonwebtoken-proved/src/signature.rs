@@ -1,18 +1,19 @@
-//! Signatures that are made or checked elsewhere, such as in a KMS or by another library.
+//! External signatures and external verification, such as in a KMS or by another library.
 
 use crate::errors::{Error, ErrorKind, Result};
-use crate::library::calls::{self, Signed};
-use crate::{Algorithm, DecodingKey, Header, TokenData, Validation, status};
+use crate::library::calls;
+use crate::library::handle::Handle;
+use crate::{Algorithm, DecodingKey, Header, TokenData, Validation};
 use serde::Serialize;
 use serde::de::DeserializeOwned;
 use std::error::Error as StdError;
 
-/// The parts of a token that other cryptography has to check. Nothing is verified.
+/// The parts of a token for external verification. Nothing is verified here.
 #[derive(Clone, Debug, PartialEq, Eq)]
 pub struct SignedPart<'a> {
     /// The algorithm that the token itself names. Check the signature by the algorithm that your key is for.
     pub algorithm: Algorithm,
-    /// The bytes that are signed.
+    /// The signed bytes.
     pub message: &'a [u8],
     /// The signature's bytes. For ES256 and ES384 these are the two numbers one after the other (RFC 7518 section 3.4).
     pub signature: Vec<u8>,
@@ -21,22 +22,21 @@ pub struct SignedPart<'a> {
 /// The yes or no of other cryptography to a signature.
 #[derive(Clone, Copy, Debug, PartialEq, Eq)]
 pub struct Verdict<'a> {
-    /// The algorithm by which the signature was checked.
+    /// The algorithm of the verification.
     pub algorithm: Algorithm,
-    /// The message that it was checked for.
+    /// The message.
     pub message: &'a [u8],
     /// The signature's bytes.
     pub signature: &'a [u8],
-    /// Whether the signature is that of the message by the key.
+    /// Whether the signature is valid for the message and the key.
     pub is_accepted: bool,
 }
 
-/// Returns the parts of a token that other cryptography has to check. Nothing is verified.
+/// Returns the parts of a token for external verification. Nothing is verified here.
 ///
 /// # Errors
 ///
-/// A text that is not a token is [`ErrorKind::InvalidToken`] or [`ErrorKind::Base64`], and a header that can't be read
-/// [`ErrorKind::Json`].
+/// A text that is not a token is [`ErrorKind::InvalidToken`] or [`ErrorKind::Base64`], and a header that can't be read [`ErrorKind::Json`].
 pub fn signed_part(token: &str) -> Result<SignedPart<'_>> {
     let (algorithm, len, signature) = calls::signed_part(token.as_bytes()).map_err(Error::from_status)?;
     let algorithm = Algorithm::from_number(algorithm)?;
@@ -56,25 +56,9 @@ pub fn decode_by_verdict<T: DeserializeOwned>(
     validation: &Validation,
     now: u64,
 ) -> Result<TokenData<T>> {
-    let Verdict { algorithm, message, signature, is_accepted } = *verdict;
-    let signed = Signed { algorithm: algorithm.number(), message, signature };
-    let claims = calls::decode_verdict(token.as_bytes(), signed, is_accepted, &validation.options()?, now);
-    let claims = claims.map_err(Error::from_status)?;
+    let claims = calls::decode_verdict(token.as_bytes(), verdict, &validation.options()?, now);
+    let claims = claims.map_err(|it| validation.error(it))?;
     Ok(TokenData { header: crate::decode_header(token)?, claims: serde_json::from_str(&claims)? })
-}
-
-/// Returns whether a signature is that of a message by a key.
-pub(crate) fn is_accepted(key: &DecodingKey, algorithm: Algorithm, message: &[u8], signature: &[u8]) -> Result<bool> {
-    let keys = key.keys()?;
-    if keys.verifies() & algorithm.bit() == 0 {
-        return Err(ErrorKind::UnusableKey(format!("it does not verify with {algorithm}")).into());
-    }
-    let text = keys.text().map_err(Error::from_key_status)?;
-    match calls::verify_signature(&text.0, Signed { algorithm: algorithm.number(), message, signature }) {
-        Ok(()) => Ok(true),
-        Err(status::INVALID_SIGNATURE) => Ok(false),
-        Err(status) => Err(Error::from_key_status(status)),
-    }
 }
 
 /// A token that is to be signed elsewhere, such as with a key in a KMS.
@@ -91,32 +75,28 @@ pub(crate) fn is_accepted(key: &DecodingKey, algorithm: Algorithm, message: &[u8
 /// ```
 #[derive(Clone, Debug, PartialEq, Eq)]
 pub struct SigningInput {
-    header: String,
-    claims: String,
     algorithm: Algorithm,
     message: String,
 }
 
 impl SigningInput {
-    /// Returns the token of a header and claims, without its signature.
+    /// Returns the token of a header and claims, without its signature. What serde writes of them is signed byte for byte.
     ///
     /// # Errors
     ///
-    /// A header or claims that can't be written, or are no object, or have a float, are [`ErrorKind::Json`].
+    /// A header or claims that can't be written, are not an object, or have a name twice are [`ErrorKind::Json`].
     pub fn new<T: Serialize>(header: &Header, claims: &T) -> Result<SigningInput> {
-        let algorithm = header.alg;
-        let [header, claims] = [serde_json::to_string(header)?, serde_json::to_string(claims)?];
-        let (_, message) = calls::signing_input(&header, &claims).map_err(Error::from_issue_status)?;
-        Ok(SigningInput { header, claims, algorithm, message })
+        let message = calls::signing_input(&serde_json::to_vec(header)?, &serde_json::to_vec(claims)?);
+        Ok(SigningInput { algorithm: header.alg, message: message.map_err(Error::from_issue_status)? })
     }
 
-    /// Returns the algorithm by which the message is to be signed.
+    /// Returns the algorithm to sign with.
     #[must_use]
     pub fn algorithm(&self) -> Algorithm {
         self.algorithm
     }
 
-    /// Returns the bytes that are to be signed.
+    /// Returns the bytes to sign.
     #[must_use]
     pub fn message(&self) -> &[u8] {
         self.message.as_bytes()
@@ -130,22 +110,17 @@ impl SigningInput {
     /// A signature without a length of the algorithm is [`ErrorKind::Signing`]: 64 bytes for ES256 and EdDSA, 96 for ES384, 32, 48 or 64
     /// for HMAC, and at least 1 for RSA.
     pub fn encode(&self, signature: &[u8]) -> Result<String> {
-        let signed = Signed { algorithm: self.algorithm.number(), message: self.message(), signature };
-        calls::encode_signature(&self.header, &self.claims, signed).map_err(Error::from_issue_status)
+        Handle::none().attach(self.message(), signature).map_err(Error::from_status)
     }
 
     /// Returns the token with a signature of the message, once the library has verified it by this key.
     ///
     /// # Errors
     ///
-    /// The errors are those of [`SigningInput::encode`]; a signature that does not verify is [`ErrorKind::Signing`], and a key that does
-    /// not serve [`ErrorKind::UnusableKey`].
+    /// Returns the errors of [`SigningInput::encode`]; a signature that does not verify is [`ErrorKind::Signing`], and a key that does not
+    /// serve [`ErrorKind::UnusableKey`].
     pub fn encode_verified(&self, signature: &[u8], key: &DecodingKey) -> Result<String> {
-        let token = self.encode(signature)?;
-        if is_accepted(key, self.algorithm, self.message(), signature)? {
-            return Ok(token);
-        }
-        Err(ErrorKind::Signing("the signature does not verify by the public key".to_string()).into())
+        key.verifier()?.attach(self.algorithm, self.message(), signature)
     }
 }
 
@@ -154,7 +129,7 @@ pub trait Signer {
     /// Returns the algorithm that it signs with.
     fn algorithm(&self) -> Algorithm;
 
-    /// Returns the public key, by which the library verifies each signature before a token is returned.
+    /// Returns the public key. With it the library verifies each signature before a token is returned.
     fn verifying_key(&self) -> &DecodingKey;
 
     /// Returns the signature of a message as a token has it: for ES256 and ES384 the two numbers one after the other, as
@@ -170,7 +145,7 @@ pub trait Signer {
 ///
 /// # Errors
 ///
-/// A header with another algorithm than the signer's is [`ErrorKind::InvalidAlgorithm`]. The other errors are those of
+/// A header with another algorithm than the signer's is [`ErrorKind::InvalidAlgorithm`]. The others are the errors of
 /// [`SigningInput::new`], [`Signer::sign`] and [`SigningInput::encode_verified`].
 pub fn encode_with<T: Serialize, S: Signer + ?Sized>(header: &Header, claims: &T, signer: &S) -> Result<String> {
     if header.alg != signer.algorithm() {
@@ -189,23 +164,4 @@ pub fn encode_with<T: Serialize, S: Signer + ?Sized>(header: &Header, claims: &T
 /// [`ErrorKind::InvalidSignature`].
 pub fn ecdsa_signature(der: &[u8], algorithm: Algorithm) -> Result<Vec<u8>> {
     calls::ecdsa_signature(der, algorithm.number()).map_err(Error::from_status)
-}
-
-#[cfg(test)]
-mod tests {
-    use crate::library::calls::{self, Signed};
-    use crate::status;
-
-    #[test]
-    fn a_signature_of_another_message_is_refused() {
-        let (header, claims) = (r#"{"alg":"HS256"}"#, r#"{"exp":1}"#);
-        let (algorithm, message) = calls::signing_input(header, claims).unwrap();
-        let signed = Signed { algorithm, message: message.as_bytes(), signature: &[1; 32] };
-        assert!(calls::encode_signature(header, claims, signed).is_ok());
-        assert_eq!(calls::encode_signature(header, r#"{"exp":2}"#, signed), Err(status::SIGNING));
-        assert_eq!(
-            calls::encode_signature(header, claims, Signed { algorithm: 13, ..signed }),
-            Err(status::INVALID_ALGORITHM_NAME)
-        );
-    }
 }

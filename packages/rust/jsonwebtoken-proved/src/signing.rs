@@ -1,34 +1,38 @@
-//! Signatures by OpenSSL, if the feature `openssl` is on.
-
-use crate::errors::Result;
-use crate::{Algorithm, DecodingKey, EncodingKey};
-
-#[cfg(not(feature = "openssl"))]
-fn missing<T>() -> Result<T> {
-    let why = "all but HMAC of tokens needs the feature openssl, or a Signer of yours";
-    Err(crate::errors::ErrorKind::Provider(why.to_string()).into())
-}
-
-/// Returns a signature as a token has it, which is yet to be verified.
-#[cfg(not(feature = "openssl"))]
-pub fn sign(_: &EncodingKey, _: Algorithm, _: &[u8]) -> Result<Vec<u8>> {
-    missing()
-}
-
-/// Returns the key that verifies what a key signs: the public half of a private key, or a secret.
-#[cfg(not(feature = "openssl"))]
-pub fn verifying_key(_: &EncodingKey) -> Result<DecodingKey> {
-    missing()
-}
+//! Private keys, and signatures by OpenSSL, if the feature `openssl` is on.
 
 #[cfg(feature = "openssl")]
-pub use by_openssl::{sign, verifying_key};
+pub use by_openssl::PrivateKey;
+#[cfg(not(feature = "openssl"))]
+pub use missing::PrivateKey;
+
+#[cfg(not(feature = "openssl"))]
+mod missing {
+    use crate::errors::{ErrorKind, Result};
+    use crate::{Algorithm, AlgorithmFamily, DecodingKey};
+
+    /// Without the feature no private key is read.
+    pub enum PrivateKey {}
+
+    impl PrivateKey {
+        pub fn new(_: AlgorithmFamily, _: &[u8]) -> Result<PrivateKey> {
+            let why = "all but HMAC of tokens needs the feature openssl, or a Signer of yours";
+            Err(ErrorKind::Provider(why.to_string()).into())
+        }
+
+        pub fn sign(&self, _: Algorithm, _: &[u8]) -> Result<Vec<u8>> {
+            match *self {}
+        }
+
+        pub fn public(&self) -> &DecodingKey {
+            match *self {}
+        }
+    }
+}
 
 #[cfg(feature = "openssl")]
 mod by_openssl {
-    use super::{Algorithm, DecodingKey, EncodingKey, Result};
-    use crate::errors::{Error, ErrorKind};
-    use crate::{AlgorithmFamily, pem, signature};
+    use crate::errors::{Error, ErrorKind, Result};
+    use crate::{Algorithm, AlgorithmFamily, DecodingKey, ecdsa_signature};
     use openssl::bn::BigNumContext;
     use openssl::ec::PointConversionForm;
     use openssl::error::ErrorStack;
@@ -37,19 +41,51 @@ mod by_openssl {
     use openssl::rsa::Padding;
     use openssl::sign::{RsaPssSaltlen, Signer};
 
-    /// Returns the private key of this family, as OpenSSL reads it.
-    fn private(key: &EncodingKey) -> Result<PKey<Private>> {
-        let (id, read) = match key.family() {
-            AlgorithmFamily::Ed => {
-                let seed = pem::seed(key.as_bytes()).ok_or(ErrorKind::InvalidKeyFormat)?;
-                (Id::ED25519, PKey::private_key_from_raw_bytes(seed, Id::ED25519))
+    /// A private key, or a secret, as OpenSSL has read it, and the key that verifies what it signs.
+    pub struct PrivateKey {
+        key: PKey<Private>,
+        public: DecodingKey,
+    }
+
+    impl PrivateKey {
+        /// Reads the DER of a key of this family, or a secret.
+        pub fn new(family: AlgorithmFamily, bytes: &[u8]) -> Result<PrivateKey> {
+            let (id, key) = match family {
+                AlgorithmFamily::Ed => (Id::ED25519, PKey::private_key_from_raw_bytes(seed(bytes), Id::ED25519)),
+                AlgorithmFamily::Ec => (Id::EC, PKey::private_key_from_der(bytes)),
+                AlgorithmFamily::Rsa => (Id::RSA, PKey::private_key_from_der(bytes)),
+                AlgorithmFamily::Hmac => (Id::HMAC, PKey::hmac(bytes)),
+            };
+            let key = key.ok().filter(|it| it.id() == id).ok_or(ErrorKind::InvalidKeyFormat)?;
+            let public = match family {
+                AlgorithmFamily::Hmac => DecodingKey::from_secret(bytes),
+                _ => public_of(&key).map_err(failed)?,
+            };
+            Ok(PrivateKey { key, public })
+        }
+
+        /// Returns a signature as a token has it, which is yet to be verified.
+        pub fn sign(&self, algorithm: Algorithm, message: &[u8]) -> Result<Vec<u8>> {
+            let made = signed(&self.key, algorithm, message).map_err(failed)?;
+            if algorithm.family() != AlgorithmFamily::Ec {
+                return Ok(made);
             }
-            AlgorithmFamily::Ec => (Id::EC, PKey::private_key_from_der(key.as_bytes())),
-            AlgorithmFamily::Rsa => (Id::RSA, PKey::private_key_from_der(key.as_bytes())),
-            AlgorithmFamily::Hmac => (Id::HMAC, PKey::hmac(key.as_bytes())),
-        };
-        let read = read.map_err(|_| ErrorKind::InvalidKeyFormat)?;
-        if read.id() == id { Ok(read) } else { Err(ErrorKind::InvalidKeyFormat.into()) }
+            // its numbers are too long if the key is on another curve
+            ecdsa_signature(&made, algorithm).map_err(|_| ErrorKind::InvalidEcdsaKey.into())
+        }
+
+        /// Returns the public half, or the secret.
+        pub fn public(&self) -> &DecodingKey {
+            &self.public
+        }
+    }
+
+    /// Returns the 32 bytes of a private key of Ed25519 in PKCS #8 (RFC 8410 section 7), or none.
+    fn seed(der: &[u8]) -> &[u8] {
+        const VERSION: usize = 4;
+        const ALGORITHM: &[u8] = b"\x30\x05\x06\x03\x2b\x65\x70\x04\x22\x04\x20";
+        let after = der.get(VERSION + 1..).and_then(|it| it.strip_prefix(ALGORITHM));
+        after.and_then(|it| it.get(..32)).unwrap_or_default()
     }
 
     #[allow(clippy::needless_pass_by_value)] // for map_err
@@ -77,31 +113,14 @@ mod by_openssl {
         signer.sign_oneshot_to_vec(message)
     }
 
-    pub fn sign(key: &EncodingKey, algorithm: Algorithm, message: &[u8]) -> Result<Vec<u8>> {
-        let made = signed(&private(key)?, algorithm, message).map_err(failed)?;
-        if algorithm.family() != AlgorithmFamily::Ec {
-            return Ok(made);
+    fn public_of(key: &PKey<Private>) -> std::result::Result<DecodingKey, ErrorStack> {
+        if let Ok(rsa) = key.rsa() {
+            return Ok(DecodingKey::from_rsa_raw_components(&rsa.n().to_vec(), &rsa.e().to_vec()));
         }
-        // its numbers are too long if the key is on another curve
-        signature::ecdsa_signature(&made, algorithm).map_err(|_| ErrorKind::InvalidEcdsaKey.into())
-    }
-
-    /// Returns the uncompressed point of a private key on a curve.
-    fn point(key: &PKey<Private>) -> std::result::Result<Vec<u8>, ErrorStack> {
-        let (key, mut context) = (key.ec_key()?, BigNumContext::new()?);
-        key.public_key().to_bytes(key.group(), PointConversionForm::UNCOMPRESSED, &mut context)
-    }
-
-    pub fn verifying_key(key: &EncodingKey) -> Result<DecodingKey> {
-        let read = private(key)?;
-        match key.family() {
-            AlgorithmFamily::Hmac => Ok(DecodingKey::from_secret(key.as_bytes())),
-            AlgorithmFamily::Ed => Ok(DecodingKey::from_ed_der(&read.raw_public_key().map_err(failed)?)),
-            AlgorithmFamily::Ec => Ok(DecodingKey::from_ec_der(&point(&read).map_err(failed)?)),
-            AlgorithmFamily::Rsa => {
-                let rsa = read.rsa().map_err(failed)?;
-                Ok(DecodingKey::from_rsa_raw_components(&rsa.n().to_vec(), &rsa.e().to_vec()))
-            }
+        if let Ok(key) = key.ec_key() {
+            let (form, mut context) = (PointConversionForm::UNCOMPRESSED, BigNumContext::new()?);
+            return Ok(DecodingKey::from_ec_der(&key.public_key().to_bytes(key.group(), form, &mut context)?));
         }
+        Ok(DecodingKey::from_ed_der(&key.raw_public_key()?))
     }
 }

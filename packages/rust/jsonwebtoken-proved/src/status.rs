@@ -1,85 +1,41 @@
 //! The statuses of the calls for C, named as in `jwtproved.h` without the prefix `JWT_`.
 
-macro_rules! statuses {
-    ($($name:ident = $number:literal,)*) => {
-        $(#[allow(dead_code)] pub const $name: u32 = $number;)*
-        /// All statuses, by name and number.
-        #[cfg(test)]
-        const ALL: &[(&str, u32)] = &[$((stringify!($name), $number)),*];
-    };
-}
+pub const OK: u32 = 0;
+pub const INVALID_SIGNATURE: u32 = 2;
+pub const INVALID_ALGORITHM_NAME: u32 = 6;
+pub const UNSUPPORTED_ALGORITHM: u32 = 7;
+pub const INVALID_KEY_FORMAT: u32 = 8;
+pub const EXPIRED_SIGNATURE: u32 = 9;
+pub const INVALID_ISSUER: u32 = 10;
+pub const INVALID_AUDIENCE: u32 = 11;
+pub const INVALID_SUBJECT: u32 = 12;
+pub const IMMATURE_SIGNATURE: u32 = 13;
+pub const INVALID_ALGORITHM: u32 = 14;
+pub const SIGNING: u32 = 17;
+pub const PROVIDER: u32 = 18;
+pub const BASE64: u32 = 19;
+pub const JSON: u32 = 20;
+pub const OUT_OF_MEMORY: u32 = 22;
+pub const INVALID_CRIT: u32 = 24;
+pub const NO_KEY: u32 = 25;
+pub const MISSING_EXP: u32 = 40;
+pub const MISSING_SUB: u32 = 44;
+pub const MISSING_CLAIM: u32 = 59;
+pub const MALFORMED_EXP: u32 = 60;
+pub const MALFORMED_SUB: u32 = 64;
+pub const MALFORMED_CLAIM: u32 = 79;
+pub const BUFFER_TOO_SMALL: u32 = 100;
+pub const BAD_OPTIONS: u32 = 101;
+pub const BAD_HEADER: u32 = 104;
+pub const BAD_CLAIMS: u32 = 105;
+pub const BAD_KEY: u32 = 106;
+pub const ALL_ZERO_SECRET: u32 = 107;
+pub const NO_USABLE_KEY: u32 = 110;
+pub const TOKEN_TOO_LONG: u32 = 111;
+pub const KEY_AS_SECRET: u32 = 113;
+pub const NOT_FOR_SIGNATURES: u32 = 115;
+pub const IS_CERTIFICATE: u32 = 116;
+pub const UNFIT_KEY: u32 = 118;
 
-statuses! {
-    OK = 0,
-    INVALID_TOKEN = 1,
-    INVALID_SIGNATURE = 2,
-    INVALID_ECDSA_KEY = 3,
-    INVALID_EDDSA_KEY = 4,
-    RSA_FAILED_SIGNING = 5,
-    INVALID_ALGORITHM_NAME = 6,
-    UNSUPPORTED_ALGORITHM = 7,
-    INVALID_KEY_FORMAT = 8,
-    EXPIRED_SIGNATURE = 9,
-    INVALID_ISSUER = 10,
-    INVALID_AUDIENCE = 11,
-    INVALID_SUBJECT = 12,
-    IMMATURE_SIGNATURE = 13,
-    INVALID_ALGORITHM = 14,
-    MISSING_ALGORITHM = 15,
-    INVALID_RSA_KEY = 16,
-    SIGNING = 17,
-    PROVIDER = 18,
-    BASE64 = 19,
-    JSON = 20,
-    UTF8 = 21,
-    OUT_OF_MEMORY = 22,
-    CLOCK_BEFORE_EPOCH = 23,
-    INVALID_CRIT = 24,
-    NO_KEY = 25,
-    MISSING_EXP = 40,
-    MISSING_NBF = 41,
-    MISSING_AUD = 42,
-    MISSING_ISS = 43,
-    MISSING_SUB = 44,
-    MISSING_CLAIM = 59,
-    MALFORMED_EXP = 60,
-    MALFORMED_NBF = 61,
-    MALFORMED_AUD = 62,
-    MALFORMED_ISS = 63,
-    MALFORMED_SUB = 64,
-    MALFORMED_CLAIM = 79,
-    BUFFER_TOO_SMALL = 100,
-    BAD_OPTIONS = 101,
-    UNKNOWN_NUMBER = 102,
-    BAD_HEADER = 104,
-    BAD_CLAIMS = 105,
-    BAD_KEY = 106,
-    ALL_ZERO_SECRET = 107,
-    NO_VERIFIER = 108,
-    HANDLE_IN_USE = 109,
-    NO_USABLE_KEY = 110,
-    TOKEN_TOO_LONG = 111,
-    NO_MEMBER = 112,
-    KEY_AS_SECRET = 113,
-    NOT_FOR_SIGNATURES = 115,
-    IS_CERTIFICATE = 116,
-    NO_KEYS = 117,
-    UNFIT_KEY = 118,
-}
-
-#[cfg(test)]
-mod tests {
-    #[test]
-    fn the_statuses_are_those_of_the_header_file() {
-        let header = crate::tests::file_of_repository("packages/c/include/jwtproved.h");
-        let (_, declared) = header.split_once("enum jwt_status {").unwrap();
-        let (declared, _) = declared.split_once("};").unwrap();
-        let of_line = |line: &str| {
-            let (name, number) = line.trim().strip_prefix("JWT_")?.split_once(" = ")?;
-            Some((name.to_string(), number.trim_end_matches(',').parse().unwrap()))
-        };
-        let declared: Vec<(String, u32)> = declared.lines().filter_map(of_line).collect();
-        let ours: Vec<_> = super::ALL.iter().map(|(name, number)| ((*name).to_string(), *number)).collect();
-        assert_eq!(ours, declared);
-    }
-}
+/// The place of `iat` among the claims that a refusal is about, `JWT_CLAIM_IAT`.
+pub const CLAIM_IAT: u32 = u32::MAX;

@@ -1,13 +1,14 @@
 //! The conditions on a token.
 
 use crate::errors::{Error, ErrorKind, Result};
-use crate::{Algorithm, AlgorithmFamily};
-use serde::Serialize;
+use crate::library::calls::{self, Refused};
+use crate::{Algorithm, AlgorithmFamily, status};
+use serde_json::json;
 use std::collections::HashSet;
 use std::time::{SystemTime, UNIX_EPOCH};
 
-/// Returns the time of the system's clock, in seconds since 1970-01-01 00:00:00 UTC, or 0 if it is before that time. The calls that
-/// verify then return [`ErrorKind::ClockBeforeEpoch`].
+/// Returns the time of the system's clock, in seconds since 1970-01-01 00:00:00 UTC, or 0 if it is before that time. The calls that verify
+/// then return [`ErrorKind::ClockBeforeEpoch`].
 #[must_use]
 pub fn get_current_timestamp() -> u64 {
     now().unwrap_or(0)
@@ -22,29 +23,8 @@ fn seconds_of(time: SystemTime) -> Result<u64> {
     since.map(|it| it.as_secs()).map_err(|_| ErrorKind::ClockBeforeEpoch.into())
 }
 
-/// The claims that can be required (RFC 7519 section 4.1): the library has no rule for another one.
-const SPEC_CLAIMS: [&str; 5] = ["exp", "nbf", "aud", "iss", "sub"];
-
-fn texts<T: ToString>(items: &[T]) -> HashSet<String> {
+fn texts<T: ToString, C: FromIterator<String>>(items: &[T]) -> C {
     items.iter().map(ToString::to_string).collect()
-}
-
-/// The options of `jwtproved.h`. That they are strict makes the library require each of aud, iss and sub that is there.
-#[derive(Serialize)]
-#[allow(clippy::struct_excessive_bools)] // they are members of JSON
-struct Options<'a> {
-    strict: bool,
-    algorithms: &'a [Algorithm],
-    required_spec_claims: &'a HashSet<String>,
-    leeway: u64,
-    reject_tokens_expiring_in_less_than: u64,
-    validate_exp: bool,
-    validate_nbf: bool,
-    validate_aud: bool,
-    aud: Option<&'a HashSet<String>>,
-    iss: Option<&'a HashSet<String>>,
-    sub: Option<&'a str>,
-    understood_crit: &'a [String],
 }
 
 /// The conditions on a token.
@@ -59,9 +39,9 @@ struct Options<'a> {
 #[derive(Clone, Debug, PartialEq, Eq)]
 #[allow(clippy::struct_excessive_bools)] // as in the crate jsonwebtoken
 pub struct Validation {
-    /// The claims that have to be there, among `exp`, `nbf`, `aud`, `iss` and `sub`: `exp` alone at first. Another name is
-    /// [`ErrorKind::InvalidArgument`]. A claim that [`aud`](Validation::aud), [`iss`](Validation::iss) or [`sub`](Validation::sub) asks for has to
-    /// be there too.
+    /// The required claims among `exp`, `nbf`, `aud`, `iss` and `sub`: `exp` at first. Another name is [`ErrorKind::InvalidArgument`]:
+    /// [`required`](Validation::required) is for any claim. If [`aud`](Validation::aud), [`iss`](Validation::iss) or
+    /// [`sub`](Validation::sub) is set, the claim is required too.
     pub required_spec_claims: HashSet<String>,
     /// By how many seconds clocks may differ: 60 at first, and 0 by [`Validation::strict`].
     pub leeway: u64,
@@ -73,25 +53,34 @@ pub struct Validation {
     pub validate_nbf: bool,
     /// Whether `aud` is checked: at first it is, so that a token that names one is refused if no audience is accepted.
     pub validate_aud: bool,
-    /// The audiences of which the token has to name one.
+    /// The accepted audiences. The token must name one of them.
     pub aud: Option<HashSet<String>>,
-    /// The issuers of which the token has to name one.
+    /// The accepted issuers. The token must name one of them.
     pub iss: Option<HashSet<String>>,
-    /// The subject that the token has to name.
+    /// The subject that the token must name.
     pub sub: Option<String>,
     /// The accepted algorithms. [`decode`](crate::decode) requires that all are of the key's family. A [`Verifier`](crate::Verifier) and a
     /// [`KeySet`](crate::KeySet) accept a list of several families: a key verifies with the listed algorithms of the key's family.
     pub algorithms: Vec<Algorithm>,
     /// The names that the header's `crit` may have (RFC 7515 section 4.1.11): none at first.
     pub understood_crit: Vec<String>,
+    /// Whether `iat` is checked, if the token has it: at first it is not. It must be a number, and at most the leeway after now (RFC 7519
+    /// section 4.1.6).
+    pub issued_at: bool,
+    /// Further required claims, of any name: none at first. A claim that is null is missing.
+    pub required: Vec<String>,
+    /// The claims that must be strings if the token has them: none at first.
+    pub texts: Vec<String>,
+    /// Whether `aud` must be one string, and not a list, if the token has it: at first it may be a list.
+    pub one_audience: bool,
     // public, so that `..Validation::default()` is allowed
     #[doc(hidden)]
     pub insecure_ignores_signature: bool,
 }
 
 impl Validation {
-    /// Accepts this algorithm, with the defaults of the crate `jsonwebtoken`. Unlike in that crate, a claim that is asked for is
-    /// required.
+    /// Accepts this algorithm, with the defaults of the crate `jsonwebtoken`. Unlike in that crate, `aud`, `iss` and `sub` are required if
+    /// they are set.
     #[must_use]
     pub fn new(alg: Algorithm) -> Validation {
         Validation {
@@ -106,6 +95,10 @@ impl Validation {
             iss: None,
             sub: None,
             understood_crit: Vec::new(),
+            issued_at: false,
+            required: Vec::new(),
+            texts: Vec::new(),
+            one_audience: false,
             insecure_ignores_signature: false,
         }
     }
@@ -123,14 +116,12 @@ impl Validation {
         Validation { leeway: 0, reject_tokens_expiring_in_less_than: 1, validate_nbf: true, ..Validation::new(alg) }
     }
 
-    /// Accepts tokens for one of these audiences, and requires `aud`: a token that names none is
-    /// [`ErrorKind::MissingRequiredClaim`].
+    /// Accepts tokens for one of these audiences, and requires `aud`: a token that names none is [`ErrorKind::MissingRequiredClaim`].
     pub fn set_audience<T: ToString>(&mut self, items: &[T]) {
         self.aud = Some(texts(items));
     }
 
-    /// Accepts tokens of one of these issuers, and requires `iss`: a token that names none is
-    /// [`ErrorKind::MissingRequiredClaim`].
+    /// Accepts tokens of one of these issuers, and requires `iss`: a token that names none is [`ErrorKind::MissingRequiredClaim`].
     pub fn set_issuer<T: ToString>(&mut self, items: &[T]) {
         self.iss = Some(texts(items));
     }
@@ -139,6 +130,16 @@ impl Validation {
     /// [`iss`](Validation::iss) and [`sub`](Validation::sub) ask for.
     pub fn set_required_spec_claims<T: ToString>(&mut self, items: &[T]) {
         self.required_spec_claims = texts(items);
+    }
+
+    /// Requires these claims, of any name: a token without one is [`ErrorKind::MissingRequiredClaim`].
+    pub fn set_required<T: ToString>(&mut self, items: &[T]) {
+        self.required = texts(items);
+    }
+
+    /// Requires that these claims, if they are there, are strings: a token with another one is [`ErrorKind::InvalidClaimFormat`].
+    pub fn set_texts<T: ToString>(&mut self, items: &[T]) {
+        self.texts = texts(items);
     }
 
     /// Has [`decode`](crate::decode) check the claims alone, and not the signature, the algorithm or `crit`: **anyone can have written the
@@ -156,50 +157,62 @@ impl Validation {
         if self.algorithms.is_empty() {
             return Err(ErrorKind::MissingAlgorithm.into());
         }
-        self.options_of_claims()
+        Ok(self.options_of_claims())
     }
 
-    /// Returns the options for a check of claims alone, which ignores the algorithms.
-    pub(crate) fn options_of_claims(&self) -> Result<String> {
-        self.check()?;
-        let options = Options {
-            strict: true,
-            algorithms: &self.algorithms,
-            required_spec_claims: &self.required_spec_claims,
-            leeway: self.leeway,
-            reject_tokens_expiring_in_less_than: self.reject_tokens_expiring_in_less_than,
-            validate_exp: self.validate_exp,
-            validate_nbf: self.validate_nbf,
-            validate_aud: self.validate_aud,
-            aud: self.aud.as_ref().filter(|_| self.validate_aud),
-            iss: self.iss.as_ref(),
-            sub: self.sub.as_deref(),
-            understood_crit: &self.understood_crit,
+    /// Returns the options for a check of claims alone, which ignores the algorithms. They are strict: the library requires aud, iss and
+    /// sub if they are set, and refuses an empty list.
+    pub(crate) fn options_of_claims(&self) -> String {
+        json!({
+            "strict": true,
+            "algorithms": self.algorithms,
+            "required_spec_claims": self.required_spec_claims,
+            "leeway": self.leeway,
+            "reject_tokens_expiring_in_less_than": self.reject_tokens_expiring_in_less_than,
+            "validate_exp": self.validate_exp,
+            "validate_nbf": self.validate_nbf,
+            "validate_aud": self.validate_aud,
+            "aud": self.aud.as_ref().filter(|_| self.validate_aud),
+            "iss": self.iss,
+            "sub": self.sub,
+            "understood_crit": self.understood_crit,
+            "issued_at": self.issued_at,
+            "required": self.required,
+            "texts": self.texts,
+            "one_audience": self.one_audience,
+        })
+        .to_string()
+    }
+
+    /// Returns the error of a call with these conditions, from its status and the place of the claim.
+    pub(crate) fn error(&self, (status, claim): Refused) -> Error {
+        let name = |names: &[String]| match claim {
+            status::CLAIM_IAT => "iat".to_string(),
+            place => names[place as usize - 1].clone(),
         };
-        Ok(serde_json::to_string(&options)?)
+        let fault = || calls::options_fault(&self.options_of_claims()).unwrap_or_default();
+        match status {
+            status::MISSING_CLAIM => ErrorKind::MissingRequiredClaim(name(&self.required)).into(),
+            status::MALFORMED_CLAIM => ErrorKind::InvalidClaimFormat(name(&self.texts)).into(),
+            status::BAD_OPTIONS => argument(fault().replace(" in strict options", "")), // here all are strict
+            _ => Error::from_status(status),
+        }
     }
+}
 
-    /// Refuses empty lists, empty names, and claims without a rule, which could only be a slip.
-    fn check(&self) -> Result<()> {
-        let names =
-            |it: &Option<HashSet<String>>, is_slip: fn(&HashSet<String>) -> bool| it.as_ref().map_or(false, is_slip);
-        let slips = [
-            ("aud is empty", names(&self.aud, HashSet::is_empty)),
-            ("aud has an empty name", names(&self.aud, |it| it.contains(""))),
-            ("iss is empty", names(&self.iss, HashSet::is_empty)),
-            ("iss has an empty name", names(&self.iss, |it| it.contains(""))),
-            ("sub is empty", self.sub.as_deref() == Some("")),
-        ];
-        if let Some((slip, _)) = slips.into_iter().find(|it| it.1) {
-            return Err(argument(slip));
+/// Checks that each of these conditions names an issuer, and no two the same one.
+pub(crate) fn check_issuers<'a>(conditions: impl Iterator<Item = &'a Validation>) -> Result<()> {
+    let mut found = HashSet::new();
+    for it in conditions {
+        let mut issuers = it.iss.iter().flatten().peekable();
+        if issuers.peek().is_none() {
+            return Err(argument("a verifier accepts any issuer; call set_issuer of its Validation"));
         }
-        match self.required_spec_claims.iter().find(|it| !SPEC_CLAIMS.contains(&it.as_str())) {
-            Some(name) => {
-                Err(argument(format!("required_spec_claims has {name:?}, not one of {}", SPEC_CLAIMS.join(", "))))
-            }
-            None => Ok(()),
+        if let Some(twice) = issuers.find(|it| !found.insert(*it)) {
+            return Err(argument(format!("two verifiers accept the issuer {twice:?}; put its keys into one set")));
         }
     }
+    if found.is_empty() { Err(argument("no verifier is given")) } else { Ok(()) }
 }
 
 /// The conditions for HS256.
@@ -216,46 +229,8 @@ pub(crate) fn argument(why: impl Into<String>) -> Error {
 
 #[cfg(test)]
 mod tests {
-    use super::{Algorithm, ErrorKind, Validation, get_current_timestamp, seconds_of};
-    use crate::errors::Error;
-    use crate::library::calls::encode;
-    use crate::library::handle::Use;
-    use crate::library::keys::{Keys, Source};
+    use super::{ErrorKind, get_current_timestamp, seconds_of};
     use std::time::{Duration, UNIX_EPOCH};
-
-    /// RFC 7519 sections 4.1.4 and 4.1.5, and that claims that are asked for are required.
-    #[test]
-    fn strict_defaults_are_those_of_the_library() {
-        const SECRET: &[u8] = b"0123456789abcdef0123456789abcdef";
-        let mut validation = Validation::strict(Algorithm::HS256);
-        validation.set_audience(&["web"]);
-        validation.set_issuer(&["i"]);
-        let ours = validation.options().unwrap();
-        let of_the_library = r#"{"algorithms":["HS256"],"strict":true,"aud":["web"],"iss":["i"]}"#;
-        let missing = |name: &str| ErrorKind::MissingRequiredClaim(name.to_string());
-        let rows = [
-            (r#"{"aud":"web","exp":2000,"iss":"i"}"#, 1999, None),
-            (r#"{"aud":"web","exp":2000,"iss":"i"}"#, 2000, Some(ErrorKind::ExpiredSignature)),
-            (r#"{"aud":"web","exp":2000,"iss":"i","nbf":1000}"#, 1000, None),
-            (r#"{"aud":"web","exp":2000,"iss":"i","nbf":1000}"#, 999, Some(ErrorKind::ImmatureSignature)),
-            (r#"{"aud":"web","iss":"i"}"#, 0, Some(missing("exp"))),
-            (r#"{"exp":2000,"iss":"i"}"#, 0, Some(missing("aud"))),
-            (r#"{"aud":"web","exp":2000}"#, 0, Some(missing("iss"))),
-            (r#"{"aud":"app","exp":2000,"iss":"i"}"#, 0, Some(ErrorKind::InvalidAudience)),
-        ];
-        let keys = Keys::new(Source::Secret, SECRET).unwrap();
-        for (claims, now, wanted) in rows {
-            let token = encode(r#"{"alg":"HS256"}"#, claims, SECRET).unwrap();
-            for options in [ours.as_str(), of_the_library] {
-                let answer = keys.verifier(options, 0, Use::Once).unwrap().decode(token.as_bytes(), now);
-                assert_eq!(
-                    answer.err().map(|it| Error::from_status(it.status).into_kind()),
-                    wanted,
-                    "{claims} {now} {options}"
-                );
-            }
-        }
-    }
 
     #[test]
     fn a_clock_before_1970_is_an_error() {

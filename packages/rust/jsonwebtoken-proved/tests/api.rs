@@ -102,8 +102,24 @@ fn keys_of_secrets() {
     assert!(matches!(verifying.kind(), DecodingKeyKind::SecretOrDer(bytes) if bytes == SECRET));
     assert_eq!(verifying.try_get_as_bytes(), Ok(SECRET));
     assert_eq!(verifying.family(), AlgorithmFamily::Hmac);
-    for text in ["a", "a b=", "MDEyMzQ1Njc4OWFiY2RlZg="] {
-        assert!(matches!(DecodingKey::from_base64_secret(text).unwrap_err().kind(), ErrorKind::Base64(_)), "{text}");
+}
+
+/// RFC 4648 section 10. Unused bits and other characters are refused.
+#[test]
+fn base64() {
+    for (bytes, text) in
+        [("", ""), ("f", "Zg=="), ("fo", "Zm8="), ("foo", "Zm9v"), ("foob", "Zm9vYg=="), ("foobar", "Zm9vYmFy")]
+    {
+        for text in [text, text.trim_end_matches('=')] {
+            assert_eq!(EncodingKey::from_base64_secret(text).unwrap().as_bytes(), bytes.as_bytes());
+            assert_eq!(EncodingKey::from_urlsafe_base64_secret(text).unwrap().as_bytes(), bytes.as_bytes());
+        }
+    }
+    assert_eq!(EncodingKey::from_base64_secret("+/+/").unwrap().as_bytes(), [251, 255, 191]);
+    assert_eq!(EncodingKey::from_urlsafe_base64_secret("-_-_").unwrap().as_bytes(), [251, 255, 191]);
+    for wrong in ["Z", "Zg=", "Zg===", "Zh==", "Zm9=", "Zm9v====", "Zm 8", "Zm_8", "====", "Zg==Zg=="] {
+        assert!(matches!(DecodingKey::from_base64_secret(wrong).unwrap_err().kind(), ErrorKind::Base64(_)), "{wrong}");
+        assert!(EncodingKey::from_base64_secret(wrong).is_err(), "{wrong}");
     }
 }
 
@@ -219,21 +235,21 @@ fn keys_of_json_web_keys() {
         assert_eq!(Jwk::from_decoding_key(&key, None), Ok(Jwk { common, algorithm: jwk.algorithm }), "{text}");
     }
     let refused = [
-        (json!({"kty": "oct", "k": "AAAA"}), "the key does not serve: Secret is empty or all zeros"),
+        (json!({"kty": "oct", "k": "AAAA"}), "Unusable key: Secret is empty or all zeros"),
         // ssh-rsa AAAA
-        (json!({"kty": "oct", "k": "c3NoLXJzYSBBQUFB"}), "the key does not serve: Secret is the text of a key"),
-        (json!({"kty": "oct", "k": "MDEyMzQ1", "alg": "RS256"}), "the key does not serve: "),
-        (json!({"kty": "oct", "k": "MDEyMzQ1", "use": "enc"}), "the key does not serve: "),
-        (json!({"kty": "EC", "crv": "P-256", "x": x, "y": x}), "the key does not serve: "),
-        (json!({"kty": "RSA", "n": "AQAB", "e": "AQAB"}), "the key does not serve: "),
-        (json!({"kty": "OKP", "crv": "Ed25519", "x": "AQAB"}), "the key does not serve: "),
-        (json!({"kty": "oct", "k": "+/"}), "a text is not base64"),
-        (json!({"kty": "RSA", "n": "AQAB", "e": "AQ=B"}), "a text is not base64"),
-        (json!({"kty": "EC", "crv": "P-256", "x": "A", "y": "AQAB"}), "a text is not base64"),
-        (json!({"kty": "OKP", "crv": "Ed25519", "x": "AQA="}), "a text is not base64"),
-        (json!({"kty": "EC", "crv": "P-256", "x": "AQAB"}), "the key is of a kind that is not supported"),
-        (json!({"kty": "RSA", "n": "AQAB"}), "the key is of a kind that is not supported"),
-        (json!({}), "the key is of a kind that is not supported"),
+        (json!({"kty": "oct", "k": "c3NoLXJzYSBBQUFB"}), "Unusable key: Secret is the text of a key"),
+        (json!({"kty": "oct", "k": "MDEyMzQ1", "alg": "RS256"}), "Unusable key: "),
+        (json!({"kty": "oct", "k": "MDEyMzQ1", "use": "enc"}), "Unusable key: "),
+        (json!({"kty": "EC", "crv": "P-256", "x": x, "y": x}), "Unusable key: "),
+        (json!({"kty": "RSA", "n": "AQAB", "e": "AQAB"}), "Unusable key: "),
+        (json!({"kty": "OKP", "crv": "Ed25519", "x": "AQAB"}), "Unusable key: "),
+        (json!({"kty": "oct", "k": "+/"}), "Base64 error"),
+        (json!({"kty": "RSA", "n": "AQAB", "e": "AQ=B"}), "Base64 error"),
+        (json!({"kty": "EC", "crv": "P-256", "x": "A", "y": "AQAB"}), "Base64 error"),
+        (json!({"kty": "OKP", "crv": "Ed25519", "x": "AQA="}), "Base64 error"),
+        (json!({"kty": "EC", "crv": "P-256", "x": "AQAB"}), "UnsupportedAlgorithm"),
+        (json!({"kty": "RSA", "n": "AQAB"}), "UnsupportedAlgorithm"),
+        (json!({}), "UnsupportedAlgorithm"),
     ];
     for (text, wanted) in refused {
         let jwk: Jwk = serde_json::from_value(text.clone()).unwrap();
@@ -249,6 +265,8 @@ fn algorithms() {
         assert_eq!(it.to_string().parse(), Ok(KeyAlgorithm::from(*it)));
         assert_eq!(serde_json::to_value(it).unwrap(), it.to_string());
         assert_eq!(Validation::new_for_family(it.family()).algorithms, it.family().algorithms());
+        assert!(it.family().algorithms().iter().all(|other| other.family() == it.family()), "{it}");
+        assert!(it.family().algorithms().contains(it), "{it}");
     }
     assert_eq!("RSA-OAEP".parse(), Ok(KeyAlgorithm::RSA_OAEP));
     assert_eq!("x".parse::<KeyAlgorithm>().unwrap_err().kind(), &ErrorKind::InvalidAlgorithmName);
@@ -429,8 +447,12 @@ fn errors() {
     let utf8 = Error::from(String::from_utf8(vec![255]).unwrap_err());
     assert!(matches!(utf8.kind(), ErrorKind::Utf8(_)) && utf8.source().is_some());
     let missing = Error::from(ErrorKind::MissingRequiredClaim("aud".to_string()));
-    assert_eq!(missing.to_string(), "a required claim is missing or malformed: aud");
+    assert_eq!(missing.to_string(), "Missing required claim: aud");
     assert_ne!(missing, ErrorKind::MissingRequiredClaim("iss".to_string()).into());
+    assert_eq!(
+        (Error::from(ErrorKind::InvalidToken).to_string(), utf8.to_string().as_str()),
+        ("InvalidToken".to_string(), "UTF-8 error")
+    );
     for (kind, is_refusal) in [
         (ErrorKind::InvalidSignature, true),
         (ErrorKind::NoKey, true),
@@ -456,9 +478,11 @@ fn what_threads_share_and_logs_show() {
     is_shared::<Error>();
     is_shared::<jsonwebtoken::Verifier>();
     is_shared::<jsonwebtoken::KeySet>();
+    is_shared::<jsonwebtoken::ByIssuer>();
     is_shared::<jsonwebtoken::Refusal>();
     is_safe::<jsonwebtoken::Verifier>();
     is_safe::<jsonwebtoken::KeySet>();
+    is_safe::<jsonwebtoken::ByIssuer>();
     let (verifying, jwk) = (DecodingKey::from_secret(SECRET), json!({"kty": "oct", "k": "MDEyMzQ1"}));
     let jwk: Jwk = serde_json::from_value(jwk).unwrap();
     let unknown: Jwk = serde_json::from_value(json!({"kty": "AKP", "priv": "MDEyMzQ1"})).unwrap();

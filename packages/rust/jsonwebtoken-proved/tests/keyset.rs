@@ -8,7 +8,7 @@ use std::io::{self, Cursor, Read, Write};
 use std::net::{SocketAddr, TcpListener, TcpStream};
 use std::sync::atomic::{AtomicUsize, Ordering};
 use std::sync::mpsc::{Sender, channel};
-use std::sync::{Arc, Mutex};
+use std::sync::{Arc, Mutex, PoisonError};
 use std::thread;
 use std::time::{Duration, Instant};
 
@@ -286,7 +286,9 @@ fn skipped_keys_are_reported() {
         Server::new(says(set_of(&["a"]).replace(r#"{"keys":["#, r#"{"keys":[{"kty":"oct","kid":"a","k":""},"#)));
     let set = KeySet::new(server.fetch(LONG), rotation()).unwrap();
     let (tell, told) = channel();
+    let tell = Mutex::new(tell);
     set.when_skipped(move |skipped| {
+        let tell = tell.lock().unwrap_or_else(PoisonError::into_inner).clone();
         tell.send(skipped.iter().map(ToString::to_string).collect::<Vec<_>>()).unwrap();
         panic!("the closure panics")
     });
@@ -427,7 +429,7 @@ fn misbehaves(answer: &Answer) {
         assert!(begin.elapsed() < Duration::from_secs(5));
         thread::sleep(SOON / 10);
     }
-    refuses(&set, "a", "a", ErrorKind::NoKey);
+    becomes(&set, "a", Some(ErrorKind::NoKey));
     server.answers(answer.clone());
     let begin = Instant::now();
     assert!(matches!(made().map_err(Error::into_kind), Err(ErrorKind::Fetch(_) | ErrorKind::UnusableKey(_))));
@@ -686,11 +688,11 @@ fn keys_for_other_algorithms() {
     let curve = r#"{"keys":[{"kty":"EC","kid":"a","crv":"P-256","x":"f83OJ3D2xF1Bg8vub9tLe1gHMzV76e8Tus9uPHvRVEU","y":"x_FEzRu9m36HLN_tue659LNpXW6pCyStikYjKIWI5a0"}]}"#;
     let server = Server::new(says(curve));
     let set = KeySet::new(server.fetch(LONG), rotation()).unwrap();
-    assert!(matches!(verify(&set, &token(None, "a")), Some(ErrorKind::UnusableKey(_))));
-    assert_eq!(server.fetches(), 1);
+    assert!(matches!(verify(&set, &token(Some("a"), "a")), Some(ErrorKind::UnusableKey(_))));
     server.answers(says(set_of(&["a"])));
+    thread::sleep(SOON);
     accepts(&set, "a");
-    assert_eq!((server.fetches(), set.last_error()), (2, None));
+    assert_eq!((server.fetches(), set.last_error()), (3, None));
 }
 
 /// One list of algorithms is for keys of several families. The `kid` selects the key, whatever the token's `alg` is.
@@ -768,7 +770,7 @@ fn arguments() {
 fn the_error_of_the_closure_is_the_source() {
     let failing = || Err::<io::Empty, _>(io::Error::new(io::ErrorKind::ConnectionRefused, "the reason"));
     let error = KeySet::new(failing, rotation()).unwrap_err();
-    assert_eq!(error.to_string(), "the set of keys can't be fetched");
+    assert_eq!(error.to_string(), "Key set not fetched");
     let source = error.source().and_then(|it| it.downcast_ref::<io::Error>()).unwrap();
     assert_eq!((source.kind(), source.to_string().as_str()), (io::ErrorKind::ConnectionRefused, "the reason"));
     assert!(format!("{error:?}").contains("the reason"));

@@ -48,7 +48,7 @@ MCowBQYDK2VwAyEA11qYAYKxCrfVS/7TyWQHOg7hcvPapiMlrwIaaPcHURo=
 -----END PUBLIC KEY-----
 ";
 const PAYLOAD: &str = "eyJpc3MiOiJqb2UiLA0KICJleHAiOjEzMDA4MTkzODAsDQogImh0dHA6Ly9leGFtcGxlLmNvbS9pc19yb290Ijp0cnVlfQ";
-const CLAIMS: &str = r#"{"exp":1300819380,"http://example.com/is_root":true,"iss":"joe"}"#;
+const CLAIMS: &str = "{\"iss\":\"joe\",\r\n \"exp\":1300819380,\r\n \"http://example.com/is_root\":true}";
 // RFC 7515 appendices A.2 and A.3
 const RS256: &str = "cC4hiUPoj9Eetdgtv3hF80EGrhuB__dzERat0XF9g2VtQgr9PJbu3XOiZj5RZmh7AAuHIm4Bh-0Qc_lF5YKt_O8W2Fp5jujGbds9uJdbF9CUAr7t1dnZcAcQjbKBYNX4BAynRFdiuB--f_nZLgrnbyTyWzO75vRK5h6xBArLIARNPvkSjtQBMHlb1L07Qe7K0GarZRmB_eSN9383LcOLn6_dO--xi12jzDwusC-eOkHWEsqtFZESc6BfI7noOPqvhJ1phCnvWh6IeYI2w9QOYEUipUTI8np6LbgGY9Fs98rqVt5AXLIhWkWywlVmtVrBp0igcN_IoypGlUPQGe77Rw";
 const ES256: &str = "DtEhU3ljbEg8L38VWAfUAqOyKAM6-Xx-F4GawxaepmXFCgfTjDxw5djxLa8ISlSApmWQxfKTUJqPP3-Kg6NU1Q";
@@ -214,9 +214,14 @@ fn texts_that_are_not_public_keys() {
     }
 }
 
-/// Which private key a text holds is read without a feature: RFC 8410 section 10.3 has this one.
+/// RFC 8410 section 10.3 has the key. The feature `openssl` reads private keys.
 #[test]
 fn private_keys() {
+    if cfg!(not(feature = "openssl")) {
+        let refused = EncodingKey::from_ed_pem(PRIVATE.as_bytes()).unwrap_err();
+        assert!(matches!(refused.kind(), ErrorKind::Provider(why) if why.contains("openssl")), "{refused}");
+        return;
+    }
     let key = EncodingKey::from_ed_pem(PRIVATE.as_bytes()).unwrap();
     assert!(key.as_bytes().ends_with(&[0x58, 0x42]) && key.as_bytes().len() == 48);
     for made in [EncodingKey::from_rsa_pem, EncodingKey::from_ec_pem] {

@@ -5,18 +5,16 @@ use jsonwebtoken_proved::errors::{Error, ErrorKind};
 use jsonwebtoken_proved::jwk::{Jwk, ThumbprintHash};
 use jsonwebtoken_proved::{
     Algorithm, DecodingKey, EncodingKey, Header, KeySet, Rotation, Validation, Verified, Verifier, decode_header,
-    encode,
+    encode, signed_part,
 };
 use serde_json::{Value, json};
 use std::io::Cursor;
-use std::path::{Path, PathBuf};
 
-/// Returns the rows of a file of the repository. In a copy of the crate, JWT_ROWS names another file of the repository.
+mod repository;
+
+/// Returns the rows of a file of the repository.
 fn rows(path: &str) -> Vec<Value> {
-    let ours = concat!(env!("CARGO_MANIFEST_DIR"), "/../../..");
-    let named = std::env::var("JWT_ROWS").ok().and_then(|it| Path::new(&it).ancestors().nth(4).map(Path::to_path_buf));
-    let text = std::fs::read_to_string(named.unwrap_or_else(|| PathBuf::from(ours)).join(path)).unwrap();
-    text.lines().map(|it| serde_json::from_str(it).unwrap()).collect()
+    repository::file(path).lines().map(|it| serde_json::from_str(it).unwrap()).collect()
 }
 
 /// Returns the key of the numbers of a JSON Web Key.
@@ -56,11 +54,29 @@ fn all_algorithms() {
             let verified = verifier.unwrap().decode_json(token, now).unwrap();
             assert_eq!(serde_json::from_str::<Value>(&verified.claims).unwrap(), wanted["claims"]);
             assert_eq!(serde_json::to_value(decode_header(token).unwrap()).unwrap(), wanted["header"]);
+            assert_eq!(signed_part(token).unwrap().algorithm, algorithm);
             seen.push((algorithm, algorithms.len()));
         }
     }
     for it in Algorithm::ALL {
         assert!(seen.contains(&(*it, 1)) && seen.contains(&(*it, 12)), "{it}");
+    }
+}
+
+/// One verifier of a key set accepts tokens with each listed algorithm, whatever its family. Python's cryptography signed them.
+#[test]
+fn algorithms_of_several_families() {
+    let algorithms = vec![Algorithm::RS256, Algorithm::ES256, Algorithm::EdDSA];
+    let validation = Validation { algorithms, ..Validation::default() };
+    let rows = rows("crates/jwt_vectors/data/standard.jsonl");
+    let rows: Vec<&Value> = rows.iter().filter(|it| it["id"].as_str().unwrap().ends_with(", by its kid")).collect();
+    assert!(rows.len() == Algorithm::ALL.len() && rows.iter().all(|it| it["set"] == rows[0]["set"]));
+    let verifier = Verifier::from_jwk_set(&rows[0]["set"].to_string(), &validation).unwrap();
+    for row in rows {
+        let algorithm = row["want"]["ok"]["header"]["alg"].as_str().unwrap().parse().unwrap();
+        let wanted = if validation.algorithms.contains(&algorithm) { None } else { Some(ErrorKind::InvalidAlgorithm) };
+        let refusal = verifier.decode_json(row["token"].as_str().unwrap(), 0).err();
+        assert_eq!(refusal.map(|it| it.error.into_kind()), wanted, "{algorithm}");
     }
 }
 

@@ -1,6 +1,6 @@
 //! Measures the Rust package, and the crate jsonwebtoken over ring: speed WORK FILE COUNT verifies the token of a file as often, with the
-//! key of the file, and prints the nanoseconds for one. WORK is peer, verifier or decode, with one key for all, or first or second, which
-//! time the first or the second `decode` of as many keys.
+//! key of the file, and prints the nanoseconds for one. WORK is peer, verifier or decode, with one key for all, or first, which times the
+//! first `decode` of as many keys.
 
 use serde::Deserialize;
 use serde_json::Value;
@@ -46,21 +46,16 @@ fn of_package(work: &str, given: &Given, count: u32) -> Taken {
     let make = || DecodingKey::from_jwk(&Jwk::deserialize(&given.jwk).unwrap()).unwrap();
     let validation = Validation::new(Algorithm::deserialize(&given.validation["algorithms"][0])?);
     let decodes = |key: &DecodingKey| decode::<Session>(black_box(&given.token), key, &validation).unwrap();
-    let of_new_keys = |earlier: u32| {
-        (0..count).fold(Duration::ZERO, |sum, _| {
-            let key = make();
-            (0..earlier).for_each(|_| drop(decodes(&key)));
-            let begin = Instant::now();
-            drop(black_box(decodes(&key)));
-            sum + begin.elapsed()
-        })
+    let of_new_key = |sum: Duration| {
+        let (key, begin) = (make(), Instant::now());
+        drop(black_box(decodes(&key)));
+        sum + begin.elapsed()
     };
     let (key, verifier) = (make(), Verifier::new(&make(), &validation)?);
     match work {
         "verifier" => Ok(time_of(count, || verifier.decode::<Session>(black_box(&given.token)).unwrap())),
         "decode" => Ok(time_of(count, || decodes(&key))),
-        "first" => Ok(of_new_keys(0)),
-        "second" => Ok(of_new_keys(1)),
+        "first" => Ok((0..count).fold(Duration::ZERO, |sum, _| of_new_key(sum))),
         _ => Err(format!("no work {work}").into()),
     }
 }

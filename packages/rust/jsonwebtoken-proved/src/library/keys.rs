@@ -3,27 +3,23 @@
 use super::calls::{Of, checked, overwrite, text, text_of, written};
 use super::declared;
 pub use super::declared::Source;
-use super::handle::{Handle, Use};
+use super::handle::Handle;
+use super::lock;
 use crate::status;
 use std::fmt;
-use std::sync::{Mutex, MutexGuard, PoisonError};
+use std::sync::{Arc, Mutex};
 
 /// A key, or a key set, which the library has read. Any number of threads may use it.
 pub struct Keys {
     handle: Mutex<Handle>,
-    skipped: Vec<SkippedKey>,
+    skipped: Arc<[SkippedKey]>,
 }
 
-#[cfg(test)]
-thread_local! {
-    /// How many times this thread has read keys.
-    pub static READ: std::cell::Cell<usize> = std::cell::Cell::new(0);
-}
+/// The bytes of a key, which may be a secret: they are overwritten when they are dropped.
+#[derive(Clone)]
+pub struct KeyBytes(pub Vec<u8>);
 
-/// The JSON of a JSON Web Key. It is overwritten when it is dropped, since the key may be a secret.
-pub struct KeyText(pub Vec<u8>);
-
-impl Drop for KeyText {
+impl Drop for KeyBytes {
     fn drop(&mut self) {
         overwrite(&mut self.0);
     }
@@ -63,9 +59,8 @@ pub fn reasons(skipped: &[SkippedKey]) -> String {
             None => counted.push((key, 0)),
         }
     }
-    let line = |(key, others): (&SkippedKey, usize)| match others {
-        0 => key.to_string(),
-        _ => format!("{key} (and {others} more)"),
+    let line = |(key, others): (&SkippedKey, usize)| {
+        if others == 0 { key.to_string() } else { format!("{key} (and {others} more)") }
     };
     counted.into_iter().map(line).collect::<Vec<_>>().join("; ")
 }
@@ -73,15 +68,13 @@ pub fn reasons(skipped: &[SkippedKey]) -> String {
 impl Keys {
     /// Reads a key or a key set.
     pub fn new(source: Source, bytes: &[u8]) -> Result<Keys, u32> {
-        #[cfg(test)]
-        READ.with(|it| it.set(it.get() + 1));
         let (mut handle, mut items, mut kept) = (Handle::none(), 0, 0);
         // SAFETY: the slice has this length, and the handle holds nothing
         checked(unsafe {
             let (bytes, len) = (bytes.as_ptr(), bytes.len());
             declared::jwt_keys_add(handle.at(), source as u32, bytes, len, &mut items, &mut kept)
         })?;
-        let mut keys = Keys { handle: Mutex::new(handle), skipped: Vec::new() };
+        let mut keys = Keys { handle: Mutex::new(handle), skipped: Arc::from([]) };
         if kept < items {
             let skipped = |place| SkippedKey { place, status: keys.info(place).status };
             keys.skipped = (0..items).map(skipped).filter(|it| it.status != status::OK).collect();
@@ -89,26 +82,17 @@ impl Keys {
         Ok(keys)
     }
 
-    fn lock(&self) -> MutexGuard<'_, Handle> {
-        self.handle.lock().unwrap_or_else(PoisonError::into_inner)
-    }
-
     /// Returns what a key can do; all zeros, if none is at this place.
     fn info(&self, place: usize) -> declared::KeyInfo {
         let mut info = declared::KeyInfo::default();
         // SAFETY: no other call has this handle
-        unsafe { declared::jwt_keys_info(self.lock().at(), place, &mut info) };
+        unsafe { declared::jwt_keys_info(lock(&self.handle).at(), place, &mut info) };
         info
     }
 
     /// Returns the keys that are skipped.
-    pub fn skipped(&self) -> &[SkippedKey] {
+    pub fn skipped(&self) -> &Arc<[SkippedKey]> {
         &self.skipped
-    }
-
-    /// Returns the keys that are skipped, without the others.
-    pub fn into_skipped(self) -> Vec<SkippedKey> {
-        self.skipped
     }
 
     /// Returns the algorithms that verify with the first key, as bits of their numbers.
@@ -122,52 +106,40 @@ impl Keys {
     }
 
     /// Returns the JSON Web Key of the first key.
-    pub fn text(&self) -> Result<KeyText, u32> {
-        let mut handle = self.lock();
+    pub fn text(&self) -> Result<KeyBytes, u32> {
+        let mut handle = lock(&self.handle);
         // SAFETY: no other call has this handle, and the buffer has this size
         let text =
-            |buffer, size, len: *mut usize| unsafe { declared::jwt_keys_text(handle.at(), 0, buffer, size, len) };
-        written(4096, text).map(KeyText)
+            written(4096, |buffer, size, len| unsafe { declared::jwt_keys_text(handle.at(), 0, buffer, size, len) });
+        text.map(KeyBytes)
     }
 
     /// Returns the thumbprint of the first key, also if it is skipped.
     pub fn thumbprint(&self, bits: u32) -> Result<String, u32> {
-        let mut handle = self.lock();
+        let mut handle = lock(&self.handle);
         // SAFETY: no other call has this handle, and the buffer has this size
         text(96, |buffer, size, len| unsafe { declared::jwt_thumbprint(handle.at(), 0, bits, buffer, size, len) })
     }
 
-    /// Returns the verifier of the keys and options, for tokens of at most `max_token_len` bytes. 0 selects the library's limit.
-    pub fn verifier(&self, options: &str, max_token_len: usize, planned: Use) -> Result<Handle, u32> {
+    /// Returns the token of a header and a payload, signed byte for byte with the one key, a secret.
+    pub fn sign(&self, header: &[u8], payload: &[u8]) -> Result<String, u32> {
+        let mut handle = lock(&self.handle);
+        // SAFETY: no other call has this handle, each pointer has the length of its slice, and the buffer overlaps none
+        text(2 * (header.len() + payload.len()) + 96, |buffer, size, len| unsafe {
+            let (payload, payload_len) = (payload.as_ptr(), payload.len());
+            declared::jwt_sign(handle.at(), header.as_ptr(), header.len(), payload, payload_len, buffer, size, len)
+        })
+    }
+
+    /// Returns the verifier of the keys and options, for tokens of at most `max_token_len` bytes, with at most `max_prepared` bytes of
+    /// prepared keys. 0 selects the library's limits.
+    pub fn verifier(&self, options: &str, max_token_len: usize, max_prepared: usize) -> Result<Handle, u32> {
         let mut made = Handle::none();
         // SAFETY: no other call has this handle, the slice has this length, and the other handle holds nothing
         checked(unsafe {
-            let (options, len, limit) = (options.as_ptr(), options.len(), planned.max_prepared());
-            declared::jwt_verifier_new(self.lock().at(), options, len, max_token_len, limit, made.at())
+            let (options, len) = (options.as_ptr(), options.len());
+            declared::jwt_verifier_new(lock(&self.handle).at(), options, len, max_token_len, max_prepared, made.at())
         })?;
         Ok(made)
-    }
-}
-
-#[cfg(test)]
-mod tests {
-    use super::{SkippedKey, reasons};
-    use crate::status;
-
-    /// The text of an error has each reason once, however many keys a set has.
-    #[test]
-    fn reasons_of_many_keys() {
-        let skipped = |place, status| SkippedKey { place, status };
-        let many: Vec<_> = (0..100_000).map(|it| skipped(it, status::BAD_KEY)).collect();
-        let all = [&many[..3], &[skipped(3, status::BASE64)], &many[4..]].concat();
-        let text = reasons(&all);
-        let lines: Vec<&str> = text.split("; ").collect();
-        assert!(lines.len() == 2 && text.len() < 300, "{text}");
-        assert!(
-            lines[0].starts_with("key 0 of the set is skipped: ") && lines[0].ends_with(" (and 99998 more)"),
-            "{text}"
-        );
-        assert_eq!(lines[1], all[3].to_string());
-        assert_eq!(reasons(&[]), "");
     }
 }
