@@ -14,16 +14,16 @@
 #define NGX_HTTP_JWT_PAUSE  10
 /* room for each text of the library */
 #define NGX_HTTP_JWT_TEXT  64
-/* how much longer a result may be than the token or text at the first try */
-#define NGX_HTTP_JWT_ROOM  64
 /* room for the names of all algorithms, and a few words */
 #define NGX_HTTP_JWT_NAMES  256
 /* room for why keys are refused, which is cut if it is longer */
 #define NGX_HTTP_JWT_FAULT  1024
-/* this module's own test, after those of the library: iss is no list */
-#define NGX_HTTP_JWT_ISSUER_TEST  (JWT_TEST_CLAIMS_ARE_VALID + 1)
 /* the longest token with its claims that is remembered */
 #define NGX_HTTP_JWT_SLOT  4000
+
+
+/* a text as two arguments of a call of the library */
+#define ngx_http_jwt_args(text)  (const char *) (text)->data, (text)->len
 
 
 /* a fetch that is under way */
@@ -48,17 +48,17 @@ typedef struct {
     ngx_str_t              issuer;      /* or empty */
     ngx_str_t              issuers;     /* a list of it in JSON */
     ngx_uint_t             is_fetched;
-
-    /* of a file, and only while the configuration is read */
-    ngx_str_t              text;
-    ngx_http_jwt_keys_t   *keys;
+    ngx_str_t              text;        /* of a file */
+    ngx_http_jwt_keys_t   *keys;        /* of a file, while nginx reads the
+                                           configuration */
 } ngx_http_jwt_key_t;
 
 
-/* variables, one of which must be met, and the answer if none is */
+/* a variable that must be met, and the answer if neither it nor another is */
 typedef struct {
-    ngx_array_t            variables;   /* indexes of ngx_int_t */
-    ngx_str_t              text;        /* as they are written */
+    ngx_int_t              variable;    /* its index */
+    ngx_uint_t             has_other;   /* the next one is enough too */
+    ngx_str_t              text;        /* as it and those before are written */
     ngx_int_t              answer;
 } ngx_http_jwt_require_t;
 
@@ -135,7 +135,6 @@ struct ngx_http_jwt_source_s {
     time_t                    tried;    /* when the last fetch ended */
     time_t                    cut;      /* when the last one was cut off */
     time_t                    fetched;  /* when one gave a set */
-    ngx_uint_t                has_set;
     ngx_uint_t                is_failing;  /* the last gave none */
 };
 
@@ -151,6 +150,7 @@ struct ngx_http_jwt_rules_s {
     ngx_http_jwt_source_t    *sources;
     ngx_uint_t                count;    /* of sources */
     ngx_uint_t                is_bound; /* each source has its issuer */
+    struct jwt_handle         verifier; /* of all sets, or none */
     ngx_uint_t                is_fetched;  /* a source is */
     ngx_http_jwt_slot_t      *slots;
     uint64_t                  uses;     /* of slots */
@@ -165,8 +165,9 @@ typedef struct {
     ngx_str_t              token;       /* empty if none, or several */
     ngx_str_t              claims;      /* of an accepted token, in JSON */
     uint32_t               status;
-    uint32_t               test;        /* that failed, or 0 */
-    ngx_http_jwt_source_t *source;      /* the first of the set, or NULL */
+    struct jwt_verdict     said;        /* all 0 for a remembered token */
+    ngx_http_jwt_source_t *source;      /* the first of a set that lacks its
+                                           key, or NULL */
     ngx_str_t              unmet;       /* what is required, or empty */
     ngx_queue_t            queue;       /* of those that wait for a set */
     ngx_uint_t             waited;      /* for so many sets */
@@ -174,11 +175,6 @@ typedef struct {
     unsigned               cannot_wait:1;
     unsigned               has_several:1;  /* tokens */
 } ngx_http_jwt_ctx_t;
-
-
-/* a call of the library that makes a text of a text */
-typedef enum jwt_status (*ngx_http_jwt_call_pt)(const char *in, size_t in_len,
-    char *buffer, size_t buffer_len, size_t *len);
 
 
 /* ngx_http_jwt_cache.c */
@@ -213,15 +209,13 @@ uint32_t ngx_http_jwt_take_set(ngx_http_jwt_source_t *source,
     ngx_array_t *set, ngx_http_jwt_keys_t *keys);
 
 /* ngx_http_jwt_text.c */
-uint32_t ngx_http_jwt_write(ngx_http_jwt_call_pt call, ngx_pool_t *pool,
-    ngx_str_t *in, ngx_str_t *out);
-enum jwt_status ngx_http_jwt_header(const char *token, size_t token_len,
-    char *buffer, size_t buffer_len, size_t *len);
-enum jwt_status ngx_http_jwt_payload(const char *token, size_t token_len,
-    char *buffer, size_t buffer_len, size_t *len);
+uint32_t ngx_http_jwt_read_part(ngx_pool_t *pool, ngx_str_t *token,
+    uint32_t part, ngx_str_t *json);
+uint32_t ngx_http_jwt_write_list(ngx_pool_t *pool, ngx_str_t *texts,
+    ngx_uint_t n, ngx_str_t *list);
 u_char *ngx_http_jwt_write_algorithms(u_char *p, u_char *last, uint32_t bits);
 ngx_uint_t ngx_http_jwt_is_same_text(ngx_str_t *a, ngx_str_t *b);
-ngx_uint_t ngx_http_jwt_is_plain(ngx_str_t *text);
+ngx_uint_t ngx_http_jwt_has_control(ngx_str_t *text);
 ngx_uint_t ngx_http_jwt_has_variable(ngx_str_t *text);
 ngx_uint_t ngx_http_jwt_take_name(ngx_str_t *text);
 

@@ -58,7 +58,7 @@ ngx_http_jwt_find_slot(ngx_http_jwt_rules_t *rules, ngx_str_t *token,
 /* Keeps a token that was accepted now, if a slot has room for it. */
 static void
 ngx_http_jwt_keep(ngx_http_jwt_rules_t *rules, ngx_http_jwt_slot_t *slot,
-    ngx_http_jwt_ctx_t *ctx, uint32_t hash, uint64_t now, uint64_t last)
+    ngx_http_jwt_ctx_t *ctx, uint32_t hash)
 {
     u_char  *p;
 
@@ -66,8 +66,8 @@ ngx_http_jwt_keep(ngx_http_jwt_rules_t *rules, ngx_http_jwt_slot_t *slot,
         return;
     }
 
-    slot->first = now;
-    slot->last = last;
+    slot->first = ngx_time();
+    slot->last = ctx->said.last;
     slot->used = ++rules->uses;
     slot->hash = hash;
     slot->token_len = ctx->token.len;
@@ -77,14 +77,14 @@ ngx_http_jwt_keep(ngx_http_jwt_rules_t *rules, ngx_http_jwt_slot_t *slot,
 }
 
 
+/* The verifier decides about a token. */
 static uint32_t
-ngx_http_jwt_decode_by(struct jwt_handle *verifier, ngx_http_jwt_ctx_t *ctx,
-    uint64_t now, uint64_t *last)
+ngx_http_jwt_decode(ngx_http_jwt_rules_t *rules, ngx_http_jwt_ctx_t *ctx)
 {
-    size_t     size;
-    uint32_t   status;
+    size_t    size;
+    uint32_t  status;
 
-    ctx->claims.len = ctx->token.len + NGX_HTTP_JWT_ROOM;
+    ctx->claims.len = ctx->token.len;
 
     do {
         size = ctx->claims.len;
@@ -93,119 +93,14 @@ ngx_http_jwt_decode_by(struct jwt_handle *verifier, ngx_http_jwt_ctx_t *ctx,
             return JWT_OUT_OF_MEMORY;
         }
 
-        status = jwt_verifier_decode(verifier, (char *) ctx->token.data,
-                                     ctx->token.len, now,
-                                     (char *) ctx->claims.data, size,
-                                     &ctx->claims.len, last, &ctx->test);
+        status = jwt_verifier_decode(&rules->verifier,
+                                     ngx_http_jwt_args(&ctx->token),
+                                     ngx_time(), (char *) ctx->claims.data,
+                                     size, &ctx->said);
+        ctx->claims.len = ctx->said.len;
     } while (status == JWT_BUFFER_TOO_SMALL);
 
     return status;
-}
-
-
-/*
- * Refuses an accepted token if its iss is a list, against RFC 7519 section
- * 4.1.1: its issuer would sign in the names of others too.
- */
-static uint32_t
-ngx_http_jwt_check_issuer(ngx_http_jwt_ctx_t *ctx)
-{
-    size_t     len;
-    uint32_t   status, type;
-
-    status = jwt_member((char *) ctx->claims.data, ctx->claims.len, "iss", 3,
-                        &type, NULL, 0, &len);
-
-    if (status == JWT_OUT_OF_MEMORY || type == JWT_STRING) {
-        return status == JWT_OUT_OF_MEMORY ? status : JWT_OK;
-    }
-
-    ctx->test = NGX_HTTP_JWT_ISSUER_TEST;
-    return JWT_INVALID_ISSUER;
-}
-
-
-/*
- * Reads the issuer that a token names, of which nothing is verified.  The
- * status is another than JWT_OK if there is no such text.
- */
-static uint32_t
-ngx_http_jwt_read_issuer(ngx_http_jwt_ctx_t *ctx, ngx_str_t *issuer)
-{
-    uint32_t    status, type;
-    ngx_str_t   payload;
-
-    /* a verifier refuses it unread */
-    if (ctx->token.len > JWT_TOKEN_LIMIT) {
-        return JWT_TOKEN_TOO_LONG;
-    }
-
-    status = ngx_http_jwt_write(ngx_http_jwt_payload, ctx->request->pool,
-                                &ctx->token, &payload);
-    if (status != JWT_OK) {
-        return status;
-    }
-
-    issuer->data = ngx_pnalloc(ctx->request->pool, payload.len);
-    if (issuer->data == NULL) {
-        return JWT_OUT_OF_MEMORY;
-    }
-
-    status = jwt_member((char *) payload.data, payload.len, "iss", 3, &type,
-                        (char *) issuer->data, payload.len, &issuer->len);
-
-    return status == JWT_OK && type != JWT_STRING ? JWT_NO_MEMBER : status;
-}
-
-
-/*
- * Selects the set whose verifier decides: that of the issuer that the token
- * names.  A token that names none is refused by the first, or by the test that
- * its issuer is one text.
- */
-static uint32_t
-ngx_http_jwt_select(ngx_http_jwt_rules_t *rules, ngx_http_jwt_ctx_t *ctx)
-{
-    uint32_t    status;
-    ngx_str_t   issuer;
-
-    ctx->source = rules->sources;
-
-    if (!rules->is_bound) {
-        return JWT_OK;
-    }
-
-    status = ngx_http_jwt_read_issuer(ctx, &issuer);
-    if (status != JWT_OK) {
-        return status == JWT_OUT_OF_MEMORY ? status : JWT_OK;
-    }
-
-    ctx->source = ngx_http_jwt_find_source(rules, &issuer);
-    if (ctx->source != NULL) {
-        return JWT_OK;
-    }
-
-    ctx->test = JWT_TEST_CLAIMS_ARE_VALID;
-    return JWT_INVALID_ISSUER;
-}
-
-
-/* One verifier decides about a token. */
-static uint32_t
-ngx_http_jwt_decode(ngx_http_jwt_rules_t *rules, ngx_http_jwt_ctx_t *ctx,
-    uint64_t now, uint64_t *last)
-{
-    uint32_t  status;
-
-    status = ngx_http_jwt_select(rules, ctx);
-
-    if (status == JWT_OK) {
-        status = ngx_http_jwt_decode_by(&ctx->source->verifier, ctx, now,
-                                        last);
-    }
-
-    return status == JWT_OK && rules->is_bound
-           ? ngx_http_jwt_check_issuer(ctx) : status;
 }
 
 
@@ -218,19 +113,18 @@ uint32_t
 ngx_http_jwt_verify(ngx_http_jwt_rules_t *rules, ngx_http_jwt_ctx_t *ctx)
 {
     uint32_t              hash, status;
-    uint64_t              now, last;
+    uint64_t              now = ngx_time();
     ngx_uint_t            is_found;
     ngx_http_jwt_slot_t  *slot;
 
-    ctx->test = 0;
-    now = ngx_time();
+    ngx_memzero(&ctx->said, sizeof(struct jwt_verdict));
 
     if (ngx_time() < 0) {
         return JWT_CLOCK_BEFORE_EPOCH;
     }
 
     if (rules->conf->slot_count == 0) {
-        return ngx_http_jwt_decode(rules, ctx, now, &last);
+        return ngx_http_jwt_decode(rules, ctx);
     }
 
     /* the same token has another hash after another set */
@@ -246,10 +140,10 @@ ngx_http_jwt_verify(ngx_http_jwt_rules_t *rules, ngx_http_jwt_ctx_t *ctx)
         return ctx->claims.data != NULL ? JWT_OK : JWT_OUT_OF_MEMORY;
     }
 
-    status = ngx_http_jwt_decode(rules, ctx, now, &last);
+    status = ngx_http_jwt_decode(rules, ctx);
 
     if (status == JWT_OK) {
-        ngx_http_jwt_keep(rules, slot, ctx, hash, now, last);
+        ngx_http_jwt_keep(rules, slot, ctx, hash);
     }
 
     return status;

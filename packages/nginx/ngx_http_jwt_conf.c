@@ -102,55 +102,40 @@ ngx_http_jwt_check_blocks(ngx_conf_t *cf)
 }
 
 
-static ngx_uint_t ngx_http_jwt_is_served(ngx_queue_t *locations,
-    ngx_str_t *uri);
-
-
-/* Returns whether a location, or one in it, serves a path, but as "/" does. */
+/* Returns whether a location in a block serves a path, but as "/" does. */
 static ngx_uint_t
-ngx_http_jwt_serves(ngx_http_core_loc_conf_t *clcf, ngx_str_t *uri)
-{
-    if (clcf->named || clcf->noname) {
-        return 0;
-    }
-
-#if (NGX_PCRE)
-    if (clcf->regex != NULL) {
-        return ngx_regex_exec(clcf->regex->regex, uri, NULL, 0) >= 0;
-    }
-#endif
-
-    if (uri->len < clcf->name.len
-        || ngx_memcmp(uri->data, clcf->name.data, clcf->name.len) != 0)
-    {
-        return 0;
-    }
-
-    if (clcf->exact_match) {
-        return uri->len == clcf->name.len;
-    }
-
-    return clcf->name.len > 1 || ngx_http_jwt_is_served(clcf->locations, uri);
-}
-
-
-static ngx_uint_t
-ngx_http_jwt_is_served(ngx_queue_t *locations, ngx_str_t *uri)
+ngx_http_jwt_is_served(ngx_http_core_loc_conf_t *block, ngx_str_t *uri)
 {
     ngx_queue_t                *q;
+    ngx_http_core_loc_conf_t   *clcf;
     ngx_http_location_queue_t  *it;
 
-    if (locations == NULL) {
+    if (block->locations == NULL) {
         return 0;
     }
 
-    for (q = ngx_queue_head(locations);
-         q != ngx_queue_sentinel(locations);
+    for (q = ngx_queue_head(block->locations);
+         q != ngx_queue_sentinel(block->locations);
          q = ngx_queue_next(q))
     {
         it = (ngx_http_location_queue_t *) q;
+        clcf = it->exact ? it->exact : it->inclusive;
 
-        if (ngx_http_jwt_serves(it->exact ? it->exact : it->inclusive, uri)) {
+#if (NGX_PCRE)
+        if (clcf->regex != NULL) {
+            if (ngx_regex_exec(clcf->regex->regex, uri, NULL, 0) >= 0) {
+                return 1;
+            }
+
+            continue;
+        }
+#endif
+
+        if (uri->len >= clcf->name.len
+            && ngx_memcmp(uri->data, clcf->name.data, clcf->name.len) == 0
+            && (clcf->exact_match ? uri->len == clcf->name.len
+                : clcf->name.len > 1 || ngx_http_jwt_is_served(clcf, uri)))
+        {
             return 1;
         }
     }
@@ -172,7 +157,7 @@ ngx_http_jwt_check_locations(ngx_conf_t *cf, ngx_http_jwt_loc_conf_t *conf)
 
     for (i = 0; i < conf->keys->nelts; i++) {
         if (key[i].is_fetched
-            && !ngx_http_jwt_is_served(clcf->locations, &key[i].name))
+            && !ngx_http_jwt_is_served(clcf, &key[i].name))
         {
             ngx_conf_log_error(NGX_LOG_EMERG, cf, 0, "auth_jwt_key_request "
                                "\"%V\" has no location but that of \"/\"",
@@ -276,12 +261,15 @@ ngx_http_jwt_read_realm(ngx_conf_t *cf, ngx_str_t *text, ngx_str_t *realm)
     }
 
     /* without control characters the escapes are those of a quoted-string */
-    if (!ngx_http_jwt_is_plain(text)
-        || ngx_http_jwt_write(jwt_quote, cf->pool, text, realm) != JWT_OK)
+    if (ngx_http_jwt_has_control(text)
+        || ngx_http_jwt_write_list(cf->pool, text, 1, realm) != JWT_OK)
     {
         return "has a realm that is not UTF-8 without control characters";
     }
 
+    /* without the brackets */
+    realm->data++;
+    realm->len -= 2;
     return NGX_CONF_OK;
 }
 
@@ -326,7 +314,7 @@ ngx_http_jwt_check_algorithm(ngx_conf_t *cf, ngx_str_t *name)
 {
     u_char  names[NGX_HTTP_JWT_NAMES], *last;
 
-    if (jwt_algorithm((char *) name->data, name->len) != 0) {
+    if (jwt_algorithm(ngx_http_jwt_args(name)) != 0) {
         return NGX_CONF_OK;
     }
 
@@ -339,65 +327,30 @@ ngx_http_jwt_check_algorithm(ngx_conf_t *cf, ngx_str_t *name)
 }
 
 
-/* Has the library read a list of one name as an option. */
+/* Has the library read a list as an option. */
 static char *
-ngx_http_jwt_check_option(ngx_conf_t *cf, ngx_command_t *cmd, ngx_str_t *name,
-    ngx_str_t *json)
+ngx_http_jwt_check_option(ngx_conf_t *cf, ngx_command_t *cmd, ngx_str_t *list)
 {
-    uint32_t    status;
-    ngx_str_t   options, fault;
+    char       fault[NGX_HTTP_JWT_FAULT];
+    size_t     len;
+    u_char    *p, *last;
+    uint32_t   status;
 
-    options.len = json->len + 32;
-    options.data = ngx_pnalloc(cf->temp_pool, options.len);
-    if (options.data == NULL) {
+    p = ngx_pnalloc(cf->temp_pool, list->len + NGX_HTTP_JWT_TEXT);
+    if (p == NULL) {
         return NGX_CONF_ERROR;
     }
 
-    options.len = ngx_snprintf(options.data, options.len, "{\"%s\":[%V]}",
-                               cmd->post, json)
-                  - options.data;
-    status = ngx_http_jwt_write(jwt_options_fault, cf->temp_pool, &options,
-                                &fault);
+    last = ngx_sprintf(p, "{\"%s\":%V}", cmd->post, list);
+    status = jwt_options_fault((char *) p, last - p, fault, sizeof(fault),
+                               &len);
 
-    if (status != JWT_OK) {
-        return NGX_CONF_ERROR;
+    if (status == JWT_OK && len > 0) {
+        ngx_conf_log_error(NGX_LOG_EMERG, cf, 0, "%V: %*s", &cmd->name, len,
+                           fault);
     }
 
-    if (fault.len == 0) {
-        return NGX_CONF_OK;
-    }
-
-    ngx_conf_log_error(NGX_LOG_EMERG, cf, 0, "%V \"%V\": %V", &cmd->name, name,
-                       &fault);
-    return NGX_CONF_ERROR;
-}
-
-
-/* Reads a name of a directive as a string in JSON. */
-static char *
-ngx_http_jwt_name(ngx_conf_t *cf, ngx_command_t *cmd, ngx_str_t *name,
-    ngx_str_t *json)
-{
-    uint32_t  status;
-
-    if (ngx_http_jwt_has_variable(name)) {
-        return "takes no variables";
-    }
-
-    if (cmd->offset == offsetof(ngx_http_jwt_loc_conf_t, algorithms)
-        && ngx_http_jwt_check_algorithm(cf, name) != NGX_CONF_OK)
-    {
-        return NGX_CONF_ERROR;
-    }
-
-    status = ngx_http_jwt_write(jwt_quote, cf->temp_pool, name, json);
-
-    if (status != JWT_OK) {
-        return status == JWT_UTF8 ? "takes names that are UTF-8"
-                                  : NGX_CONF_ERROR;
-    }
-
-    return ngx_http_jwt_check_option(cf, cmd, name, json);
+    return status == JWT_OK && len == 0 ? NGX_CONF_OK : NGX_CONF_ERROR;
 }
 
 
@@ -406,42 +359,29 @@ static char *
 ngx_http_jwt_names(ngx_conf_t *cf, ngx_command_t *cmd, ngx_str_t *name,
     ngx_uint_t n, ngx_str_t *list)
 {
-    char        *rv;
-    u_char      *p;
-    size_t       size = sizeof("[]") - 1;
-    ngx_str_t   *json;
-    ngx_uint_t   i;
-
-    json = ngx_palloc(cf->temp_pool, n * sizeof(ngx_str_t));
-    if (json == NULL) {
-        return NGX_CONF_ERROR;
-    }
+    uint32_t    status;
+    ngx_uint_t  i;
 
     for (i = 0; i < n; i++) {
-        rv = ngx_http_jwt_name(cf, cmd, &name[i], &json[i]);
-        if (rv != NGX_CONF_OK) {
-            return rv;
+        if (ngx_http_jwt_has_variable(&name[i])) {
+            return "takes no variables";
         }
 
-        size += json[i].len + 1;
+        if (cmd->offset == offsetof(ngx_http_jwt_loc_conf_t, algorithms)
+            && ngx_http_jwt_check_algorithm(cf, &name[i]) != NGX_CONF_OK)
+        {
+            return NGX_CONF_ERROR;
+        }
     }
 
-    p = ngx_pnalloc(cf->pool, size);
-    if (p == NULL) {
-        return NGX_CONF_ERROR;
+    status = ngx_http_jwt_write_list(cf->pool, name, n, list);
+
+    if (status != JWT_OK) {
+        return status == JWT_UTF8 ? "takes names that are UTF-8"
+                                  : NGX_CONF_ERROR;
     }
 
-    list->data = p;
-
-    for (i = 0; i < n; i++) {
-        *p++ = i == 0 ? '[' : ',';
-        p = ngx_cpymem(p, json[i].data, json[i].len);
-    }
-
-    *p++ = ']';
-    list->len = p - list->data;
-
-    return NGX_CONF_OK;
+    return ngx_http_jwt_check_option(cf, cmd, list);
 }
 
 
@@ -465,8 +405,8 @@ ngx_http_jwt_list(ngx_conf_t *cf, ngx_command_t *cmd, void *conf)
 
     if (rv == NGX_CONF_OK && list == &jlcf->algorithms) {
         for (i = 1; i < cf->args->nelts; i++) {
-            jlcf->bits |= (uint32_t) 1 << jwt_algorithm((char *) value[i].data,
-                                                        value[i].len);
+            jlcf->bits |= (uint32_t) 1
+                          << jwt_algorithm(ngx_http_jwt_args(&value[i]));
         }
     }
 
@@ -542,73 +482,52 @@ ngx_http_jwt_key(ngx_conf_t *cf, ngx_command_t *cmd, void *conf)
 }
 
 
-/* Adds a variable, and its text, to a requirement. */
-static char *
-ngx_http_jwt_add_variable(ngx_conf_t *cf, ngx_http_jwt_require_t *require,
-    ngx_str_t *value)
-{
-    u_char     *text;
-    ngx_int_t  *index;
-    ngx_str_t   name = *value;
-
-    if (!ngx_http_jwt_take_name(&name)) {
-        return "takes one $variable in each value: write $a $b to require "
-               "both, and any $a $b to require one of them";
-    }
-
-    text = ngx_pnalloc(cf->pool, require->text.len + 1 + value->len);
-    index = ngx_array_push(&require->variables);
-    if (text == NULL || index == NULL) {
-        return NGX_CONF_ERROR;
-    }
-
-    require->text.len = ngx_sprintf(text, "%V%s%V", &require->text,
-                                    require->text.len > 0 ? " " : "", value)
-                        - text;
-    require->text.data = text;
-    *index = ngx_http_get_variable_index(cf, &name);
-
-    return *index != NGX_ERROR ? NGX_CONF_OK : NGX_CONF_ERROR;
-}
-
-
-/* Requires a variable, or one of those after the word any. */
+/* Requires each variable, or one of those after the word any. */
 static char *
 ngx_http_jwt_add_required(ngx_conf_t *cf, ngx_array_t *required,
-    ngx_str_t *value, ngx_uint_t n, ngx_int_t answer)
+    ngx_uint_t is_any, ngx_uint_t n, ngx_int_t answer)
 {
-    char                    *rv = NGX_CONF_OK;
-    ngx_uint_t               i, is_any = n > 1;
+    u_char                  *p;
+    ngx_str_t               *value = cf->args->elts, name, any = value[1];
+    ngx_uint_t               i;
     ngx_http_jwt_require_t  *it;
 
-    it = ngx_array_push(required);
+    for (i = 1 + is_any; i < n; i++) {
+        name = value[i];
 
-    if (it == NULL
-        || ngx_array_init(&it->variables, cf->pool, n, sizeof(ngx_int_t))
-           != NGX_OK)
-    {
-        return NGX_CONF_ERROR;
+        if (!ngx_http_jwt_take_name(&name)) {
+            return "takes one $variable in each value: write $a $b to require "
+                   "both, and any $a $b to require one of them";
+        }
+
+        it = ngx_array_push(required);
+        p = ngx_pnalloc(cf->pool, any.len + 1 + value[i].len);
+        if (it == NULL || p == NULL) {
+            return NGX_CONF_ERROR;
+        }
+
+        any.len = ngx_sprintf(p, "%V %V", &any, &value[i]) - p;
+        any.data = p;
+        it->text = is_any ? any : value[i];
+        it->has_other = is_any && i < n - 1;
+        it->answer = answer;
+        it->variable = ngx_http_get_variable_index(cf, &name);
+
+        if (it->variable == NGX_ERROR) {
+            return NGX_CONF_ERROR;
+        }
     }
 
-    it->answer = answer;
-    it->text = value[0];
-    it->text.len *= is_any;
-
-    for (i = is_any; i < n && rv == NGX_CONF_OK; i++) {
-        rv = ngx_http_jwt_add_variable(cf, it, &value[i]);
-    }
-
-    return rv;
+    return NGX_CONF_OK;
 }
 
 
 static char *
 ngx_http_jwt_require(ngx_conf_t *cf, ngx_command_t *cmd, void *conf)
 {
-    char                     *rv = NGX_CONF_OK;
     ngx_str_t                *value = cf->args->elts;
     ngx_int_t                 answer = NGX_HTTP_FORBIDDEN;
-    ngx_uint_t                i, size, n = cf->args->nelts, is_any;
+    ngx_uint_t                n = cf->args->nelts, is_any;
     ngx_http_jwt_loc_conf_t  *jlcf = conf;
 
     if (ngx_strncmp(value[n - 1].data, "error=", 6) == 0) {
@@ -617,7 +536,6 @@ ngx_http_jwt_require(ngx_conf_t *cf, ngx_command_t *cmd, void *conf)
     }
 
     is_any = ngx_strcmp(value[1].data, "any") == 0;
-    size = is_any ? n - 1 : 1;
 
     if (n < 2 + is_any
         || (answer != NGX_HTTP_UNAUTHORIZED && answer != NGX_HTTP_FORBIDDEN))
@@ -633,16 +551,8 @@ ngx_http_jwt_require(ngx_conf_t *cf, ngx_command_t *cmd, void *conf)
                                           sizeof(ngx_http_jwt_require_t));
     }
 
-    if (jlcf->required == NULL) {
-        return NGX_CONF_ERROR;
-    }
-
-    for (i = 1; i < n && rv == NGX_CONF_OK; i += size) {
-        rv = ngx_http_jwt_add_required(cf, jlcf->required, &value[i], size,
-                                       answer);
-    }
-
-    return rv;
+    return jlcf->required == NULL ? NGX_CONF_ERROR
+           : ngx_http_jwt_add_required(cf, jlcf->required, is_any, n, answer);
 }
 
 

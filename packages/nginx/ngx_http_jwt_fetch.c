@@ -323,30 +323,79 @@ ngx_http_jwt_begin_fetch(ngx_http_request_t *r, ngx_http_jwt_source_t *source)
 }
 
 
-/* Returns whether a fetch could give the key of a token. */
-static ngx_uint_t
-ngx_http_jwt_lacks_key(ngx_http_jwt_ctx_t *ctx)
+/*
+ * Returns the set of the issuer that a token names, of which nothing is
+ * verified, or NULL: keys of other issuers are not fetched for it.
+ */
+static ngx_http_jwt_source_t *
+ngx_http_jwt_named_set(ngx_http_jwt_rules_t *rules, ngx_http_jwt_ctx_t *ctx)
 {
-    size_t      len;
-    uint32_t    type = JWT_STRING;
-    ngx_str_t   header;
+    uint32_t    status, type = 0;
+    ngx_str_t   payload, issuer, path = ngx_string("[\"iss\"]");
 
-    if (ctx->test == 0) {
-        return ctx->status == JWT_NO_VERIFIER;
+    status = ngx_http_jwt_read_part(ctx->request->pool, &ctx->token,
+                                    JWT_PAYLOAD, &payload);
+
+    if (status == JWT_OK) {
+        issuer.data = ngx_pnalloc(ctx->request->pool, payload.len);
+
+        status = issuer.data == NULL ? JWT_OUT_OF_MEMORY
+                 : jwt_member(ngx_http_jwt_args(&payload),
+                              ngx_http_jwt_args(&path), &type,
+                              (char *) issuer.data, payload.len, &issuer.len);
     }
 
-    if (ctx->test != JWT_TEST_KEY_IS_FOUND) {
-        return 0;
+    if (status == JWT_OUT_OF_MEMORY) {
+        ctx->status = status;
     }
 
-    /* no set has a key for a token whose kid is absent or null */
-    return ngx_http_jwt_write(ngx_http_jwt_header, ctx->request->pool,
-                              &ctx->token, &header)
-           != JWT_OK
-           || jwt_member((char *) header.data, header.len, "kid", 3, &type,
-                         NULL, 0, &len)
-              == JWT_OUT_OF_MEMORY
-           || type == JWT_STRING;
+    return status == JWT_OK && type == JWT_STRING
+           ? ngx_http_jwt_find_source(rules, &issuer) : NULL;
+}
+
+
+/* Returns whether a token is refused, and a set lacks its key or is none yet. */
+static ngx_uint_t
+ngx_http_jwt_may_lack_key(ngx_http_jwt_rules_t *rules, ngx_http_jwt_ctx_t *ctx)
+{
+    ngx_uint_t  i, may_lack = ctx->said.has_kid;
+
+    for (i = 0; i < rules->count; i++) {
+        may_lack |= rules->sources[i].text.len == 0;
+    }
+
+    return may_lack && (ctx->said.test > 0 || ctx->status == JWT_NO_VERIFIER);
+}
+
+
+/* Returns the set to which a fetch could add the key of a token, or NULL. */
+static ngx_http_jwt_source_t *
+ngx_http_jwt_lacking_set(ngx_http_jwt_rules_t *rules, ngx_http_jwt_ctx_t *ctx)
+{
+    uint32_t                status = ctx->status;
+    struct jwt_verdict      said = ctx->said;
+    ngx_http_jwt_source_t  *set = rules->sources;
+
+    if (rules->is_bound) {
+        set = ngx_http_jwt_may_lack_key(rules, ctx)
+              ? ngx_http_jwt_named_set(rules, ctx) : NULL;
+        if (set == NULL) {
+            return NULL;
+        }
+
+        /* the verdict does not say which of the sets lacks the key */
+        status = jwt_verifier_decode(&set->verifier,
+                                     ngx_http_jwt_args(&ctx->token),
+                                     ngx_time(), NULL, 0, &said);
+    }
+
+    if (status != JWT_NO_VERIFIER && (status != JWT_NO_KEY || !said.has_kid)) {
+        return NULL;
+    }
+
+    ctx->status = status;
+    ctx->said = said;
+    return set;
 }
 
 
@@ -364,7 +413,7 @@ ngx_http_jwt_renew(ngx_http_jwt_source_t *source, ngx_http_request_t *r,
         ngx_http_jwt_end_fetch(source, 1);
     }
 
-    if (lacks_key && !source->has_set) {
+    if (lacks_key && source->text.len == 0) {
         pause = NGX_HTTP_JWT_FIRST_PAUSE;
     }
 
@@ -410,10 +459,14 @@ ngx_int_t
 ngx_http_jwt_await(ngx_http_jwt_rules_t *rules, ngx_http_jwt_ctx_t *ctx)
 {
     ngx_int_t               rc = NGX_OK;
-    ngx_uint_t              i, lacks_key, is_lacking, is_awaited = 0;
+    ngx_uint_t              i, is_lacking, is_awaited = 0;
     ngx_http_jwt_source_t  *it;
 
-    lacks_key = ngx_http_jwt_lacks_key(ctx);
+    ctx->source = ngx_http_jwt_lacking_set(rules, ctx);
+
+    if (ctx->status == JWT_NO_VERIFIER) {
+        rc = NGX_HTTP_SERVICE_UNAVAILABLE;
+    }
 
     for (i = 0; i < rules->count; i++) {
         it = &rules->sources[i];
@@ -422,13 +475,13 @@ ngx_http_jwt_await(ngx_http_jwt_rules_t *rules, ngx_http_jwt_ctx_t *ctx)
             continue;
         }
 
-        is_lacking = lacks_key && it->first == ctx->source;
+        is_lacking = it->first == ctx->source;
         ngx_http_jwt_renew(it, ctx->request, is_lacking);
 
         if (is_lacking) {
             is_awaited |= it->fetch != NULL;
 
-            if (!it->has_set || it->is_failing) {
+            if (it->text.len == 0 || it->is_failing) {
                 rc = NGX_HTTP_SERVICE_UNAVAILABLE;
             }
         }

@@ -78,25 +78,18 @@ ngx_http_jwt_refuse(ngx_http_request_t *r, ngx_str_t *realm, ngx_int_t answer,
 }
 
 
-/* Returns whether a variable of a requirement has a byte that is not '0'. */
+/* Returns whether a variable has a byte that is not '0'. */
 static ngx_uint_t
-ngx_http_jwt_is_met(ngx_http_request_t *r, ngx_http_jwt_require_t *require)
+ngx_http_jwt_is_met(ngx_http_request_t *r, ngx_int_t variable)
 {
-    ngx_int_t                  *index = require->variables.elts;
-    ngx_uint_t                  i, n;
+    ngx_uint_t                  i;
     ngx_http_variable_value_t  *vv;
 
-    for (i = 0; i < require->variables.nelts; i++) {
-        vv = ngx_http_get_flushed_variable(r, index[i]);
+    vv = ngx_http_get_flushed_variable(r, variable);
 
-        if (vv == NULL || vv->not_found) {
-            continue;
-        }
-
-        for (n = 0; n < vv->len; n++) {
-            if (vv->data[n] != '0') {
-                return 1;
-            }
+    for (i = 0; vv != NULL && !vv->not_found && i < vv->len; i++) {
+        if (vv->data[i] != '0') {
+            return 1;
         }
     }
 
@@ -109,7 +102,7 @@ static ngx_int_t
 ngx_http_jwt_test(ngx_http_request_t *r, ngx_http_jwt_loc_conf_t *jlcf,
     ngx_http_jwt_ctx_t *ctx)
 {
-    ngx_uint_t               i;
+    ngx_uint_t               i, is_met = 0;
     ngx_http_jwt_require_t  *it;
 
     if (jlcf->required == NULL) {
@@ -119,7 +112,13 @@ ngx_http_jwt_test(ngx_http_request_t *r, ngx_http_jwt_loc_conf_t *jlcf,
     it = jlcf->required->elts;
 
     for (i = 0; i < jlcf->required->nelts; i++) {
-        if (!ngx_http_jwt_is_met(r, &it[i])) {
+        is_met = is_met || ngx_http_jwt_is_met(r, it[i].variable);
+
+        if (it[i].has_other) {
+            continue;
+        }
+
+        if (!is_met) {
             ctx->unmet = it[i].text;
 
             return ngx_http_jwt_refuse(r, &jlcf->realm, it[i].answer,
@@ -127,6 +126,8 @@ ngx_http_jwt_test(ngx_http_request_t *r, ngx_http_jwt_loc_conf_t *jlcf,
                                        ? ", error=\"insufficient_scope\""
                                        : ", error=\"invalid_token\"");
         }
+
+        is_met = 0;
     }
 
     return NGX_OK;

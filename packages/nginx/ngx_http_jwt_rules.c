@@ -3,10 +3,10 @@
 
 #define NGX_HTTP_JWT_OPTIONS                                                 \
     "{\"strict\":true,\"leeway\":%T,\"algorithms\":%V,\"aud\":%V,"           \
-    "\"iss\":%V}"
+    "\"iss\":%V,\"texts\":%s}"
 
 
-/* if a set with a fetched one is longer, none of its keys is prepared */
+/* if a set is longer in which one is fetched, none of its keys is prepared */
 #define NGX_HTTP_JWT_LONG  65536
 /*
  * bytes of prepared keys of such a set: 64 keys on P-256 take 0.1 s, in which
@@ -33,12 +33,13 @@ ngx_http_jwt_report(ngx_conf_t *cf, ngx_http_jwt_key_t *key, uint32_t status)
 static char *
 ngx_http_jwt_read_file(ngx_conf_t *cf, ngx_str_t *name, ngx_str_t *text)
 {
-    ssize_t   n;
-    ngx_fd_t  fd;
+    ssize_t    n;
+    ngx_fd_t   fd;
+    ngx_str_t  buffer;
 
-    text->data = ngx_palloc(cf->temp_pool, NGX_HTTP_JWT_SET + 1);
+    buffer.data = ngx_palloc(cf->temp_pool, NGX_HTTP_JWT_SET + 1);
 
-    if (text->data == NULL
+    if (buffer.data == NULL
         || ngx_conf_full_name(cf->cycle, name, 1) != NGX_OK)
     {
         return NGX_CONF_ERROR;
@@ -53,15 +54,17 @@ ngx_http_jwt_read_file(ngx_conf_t *cf, ngx_str_t *name, ngx_str_t *text)
         return NGX_CONF_ERROR;
     }
 
-    n = ngx_read_fd(fd, text->data, NGX_HTTP_JWT_SET + 1);
+    n = ngx_read_fd(fd, buffer.data, NGX_HTTP_JWT_SET + 1);
     (void) ngx_close_file(fd);
 
     if (n < 1 || n > NGX_HTTP_JWT_SET) {
         return "names no file of 1 byte to 1 MiB";
     }
 
-    text->len = n;
-    return NGX_CONF_OK;
+    buffer.len = text->len = n;
+    text->data = ngx_pstrdup(cf->pool, &buffer);
+
+    return text->data != NULL ? NGX_CONF_OK : NGX_CONF_ERROR;
 }
 
 
@@ -81,6 +84,7 @@ ngx_http_jwt_read_key(ngx_conf_t *cf, ngx_http_jwt_key_t *key)
     char                *rv;
     size_t               len;
     uint32_t             status, type;
+    ngx_str_t            path = ngx_string("[\"keys\"]");
     ngx_pool_cleanup_t  *cln;
 
     rv = ngx_http_jwt_read_file(cf, &key->name, &key->text);
@@ -104,8 +108,8 @@ ngx_http_jwt_read_key(ngx_conf_t *cf, ngx_http_jwt_key_t *key)
     }
 
     /* a key that is not in a set has no list of keys */
-    (void) jwt_member((char *) key->text.data, key->text.len, "keys", 4, &type,
-                      NULL, 0, &len);
+    (void) jwt_member(ngx_http_jwt_args(&key->text), ngx_http_jwt_args(&path),
+                      &type, NULL, 0, &len);
     key->keys->is_set = type == JWT_ARRAY;
 
     ngx_http_jwt_log_skipped(cf->log, key, NULL, key->keys);
@@ -115,11 +119,11 @@ ngx_http_jwt_read_key(ngx_conf_t *cf, ngx_http_jwt_key_t *key)
 
 static ngx_int_t
 ngx_http_jwt_write_options(ngx_pool_t *pool, ngx_http_jwt_loc_conf_t *conf,
-    ngx_str_t *issuers, ngx_str_t *options)
+    ngx_str_t *issuers, const char *texts, ngx_str_t *options)
 {
     options->len = sizeof(NGX_HTTP_JWT_OPTIONS) + NGX_TIME_T_LEN
                    + conf->algorithms.len + conf->audiences.len
-                   + issuers->len;
+                   + issuers->len + ngx_strlen(texts);
     options->data = ngx_pnalloc(pool, options->len);
     if (options->data == NULL) {
         return NGX_ERROR;
@@ -127,7 +131,8 @@ ngx_http_jwt_write_options(ngx_pool_t *pool, ngx_http_jwt_loc_conf_t *conf,
 
     options->len = ngx_snprintf(options->data, options->len,
                                 NGX_HTTP_JWT_OPTIONS, conf->leeway,
-                                &conf->algorithms, &conf->audiences, issuers)
+                                &conf->algorithms, &conf->audiences, issuers,
+                                texts)
                    - options->data;
 
     return NGX_OK;
@@ -167,6 +172,8 @@ ngx_http_jwt_free_rules(void *data)
 {
     ngx_uint_t             i;
     ngx_http_jwt_rules_t  *rules = data;
+
+    jwt_free(&rules->verifier);
 
     for (i = 0; i < rules->count; i++) {
         jwt_free(&rules->sources[i].verifier);
@@ -302,51 +309,82 @@ ngx_http_jwt_check_source(ngx_conf_t *cf, ngx_http_jwt_source_t *source)
 }
 
 
-/* Adds the keys that the sources of a set have by now, each a set itself. */
+/*
+ * Makes the verifier of the keys that the sources of a set have by now.  The
+ * keys are those of its only source, which are read already, or NULL.
+ */
 static uint32_t
-ngx_http_jwt_join(ngx_http_jwt_source_t *first, struct jwt_handle *joined)
+ngx_http_jwt_make_verifier(ngx_http_jwt_source_t *first,
+    ngx_http_jwt_keys_t *keys, ngx_uint_t is_worker,
+    struct jwt_handle *verifier)
 {
-    size_t                  items, kept;
+    size_t                  items, kept, len = 0, prepared = 0;
     uint32_t                status = JWT_OK;
+    struct jwt_handle       joined = JWT_NONE, *handle = &joined;
     ngx_http_jwt_rules_t   *rules = first->rules;
     ngx_http_jwt_source_t  *it;
 
+    if (first->count == 1 && keys != NULL) {
+        handle = &keys->handle;
+    }
+
     for (it = first; it < rules->sources + rules->count; it++) {
-        if (it->first == first && it->text.len > 0 && status == JWT_OK) {
-            status = jwt_keys_add(joined, JWT_SET, it->text.data,
-                                  it->text.len, &items, &kept);
+        if (it->first == first && it->text.len > 0) {
+            len += it->text.len;
+
+            if (handle == &joined && status == JWT_OK) {
+                status = jwt_keys_add(handle, JWT_SET, it->text.data,
+                                      it->text.len, &items, &kept);
+            }
         }
     }
 
+    if (is_worker) {
+        prepared = len > NGX_HTTP_JWT_LONG ? JWT_PREPARE_NOTHING
+                   : NGX_HTTP_JWT_PREPARED;
+    }
+
+    if (status == JWT_OK) {
+        status = jwt_verifier_new(handle, ngx_http_jwt_args(&first->options),
+                                  0, prepared, verifier);
+    }
+
+    jwt_free(&joined);
     return status;
 }
 
 
 /*
- * Makes the verifier of a set.  The keys are those of its only source, which
- * are read already, or NULL.
+ * Makes one verifier of those of all sets.  Each has its own issuer, or there
+ * is one set.
  */
 static uint32_t
-ngx_http_jwt_make_verifier(ngx_http_jwt_source_t *first,
-    ngx_http_jwt_keys_t *keys, size_t prepared, struct jwt_handle *verifier)
+ngx_http_jwt_join_verifiers(ngx_http_jwt_rules_t *rules,
+    struct jwt_handle *joined)
 {
-    uint32_t            status = JWT_OK;
-    struct jwt_handle   joined = JWT_NONE, *handle = &joined;
+    uint32_t                status;
+    ngx_http_jwt_source_t  *it;
 
-    if (first->count == 1 && keys != NULL) {
-        handle = &keys->handle;
+    for (it = rules->sources; it < rules->sources + rules->count; it++) {
+        struct jwt_handle  either = JWT_NONE;
 
-    } else {
-        status = ngx_http_jwt_join(first, &joined);
+        status = jwt_verifier_or(joined, &it->verifier, &either);
+
+        if (status == JWT_NO_VERIFIER) {
+            /* the first with keys, or one without */
+            status = jwt_share(&it->verifier, &either);
+        }
+
+        if (status == JWT_OK) {
+            jwt_free(joined);
+            *joined = either;
+
+        } else if (status != JWT_NO_VERIFIER) {
+            return status;
+        }
     }
 
-    if (status == JWT_OK) {
-        status = jwt_verifier_new(handle, (char *) first->options.data,
-                                  first->options.len, 0, prepared, verifier);
-    }
-
-    jwt_free(&joined);
-    return status;
+    return JWT_OK;
 }
 
 
@@ -355,12 +393,15 @@ static char *
 ngx_http_jwt_make_first(ngx_conf_t *cf, ngx_http_jwt_source_t *first)
 {
     uint32_t                  status;
+    ngx_uint_t                is_bound = first->rules->is_bound;
     ngx_http_jwt_key_t       *key = first->key;
     ngx_http_jwt_loc_conf_t  *conf = first->rules->conf;
 
+    /* an issuer with its own keys is one text, and not a list with others */
     if (ngx_http_jwt_write_options(cf->pool, conf,
-                                   key->issuer.len > 0 ? &key->issuers
-                                   : &conf->issuers, &first->options)
+                                   is_bound ? &key->issuers : &conf->issuers,
+                                   is_bound ? "[\"iss\"]" : "null",
+                                   &first->options)
         != NGX_OK)
     {
         return NGX_CONF_ERROR;
@@ -370,28 +411,6 @@ ngx_http_jwt_make_first(ngx_conf_t *cf, ngx_http_jwt_source_t *first)
 
     return status == JWT_OK || status == JWT_NO_KEYS ? NGX_CONF_OK
            : ngx_http_jwt_report(cf, key, status);
-}
-
-
-/* Keeps the texts of files only if they are read again with fetched sets. */
-static char *
-ngx_http_jwt_keep_texts(ngx_conf_t *cf, ngx_http_jwt_rules_t *rules)
-{
-    ngx_http_jwt_source_t  *it;
-
-    for (it = rules->sources; it < rules->sources + rules->count; it++) {
-        if (!rules->is_fetched) {
-            ngx_str_null(&it->text);
-
-        } else if (!it->key->is_fetched) {
-            it->text.data = ngx_pstrdup(cf->pool, &it->key->text);
-            if (it->text.data == NULL) {
-                return NGX_CONF_ERROR;
-            }
-        }
-    }
-
-    return NGX_CONF_OK;
 }
 
 
@@ -421,7 +440,8 @@ ngx_http_jwt_make_verifiers(ngx_conf_t *cf, ngx_http_jwt_rules_t *rules)
         }
     }
 
-    return ngx_http_jwt_keep_texts(cf, rules);
+    return ngx_http_jwt_join_verifiers(rules, &rules->verifier) == JWT_OK
+           ? NGX_CONF_OK : NGX_CONF_ERROR;
 }
 
 
@@ -435,7 +455,8 @@ ngx_http_jwt_set_rules(ngx_conf_t *cf, ngx_http_jwt_loc_conf_t *conf)
 
     jmcf = ngx_http_conf_get_module_main_conf(cf, ngx_http_jwt_module);
 
-    if (ngx_http_jwt_write_options(cf->pool, conf, &conf->issuers, &options)
+    if (ngx_http_jwt_write_options(cf->pool, conf, &conf->issuers, "",
+                                   &options)
         != NGX_OK)
     {
         return NGX_CONF_ERROR;
@@ -464,23 +485,6 @@ ngx_http_jwt_set_rules(ngx_conf_t *cf, ngx_http_jwt_loc_conf_t *conf)
 }
 
 
-/* Returns how many bytes of keys are prepared of a set with a fetched one. */
-static size_t
-ngx_http_jwt_prepared(ngx_http_jwt_source_t *first)
-{
-    size_t                  len = 0;
-    ngx_http_jwt_rules_t   *rules = first->rules;
-    ngx_http_jwt_source_t  *it;
-
-    for (it = first; it < rules->sources + rules->count; it++) {
-        len += it->first == first ? it->text.len : 0;
-    }
-
-    return len > NGX_HTTP_JWT_LONG ? JWT_PREPARE_NOTHING
-           : NGX_HTTP_JWT_PREPARED;
-}
-
-
 /* Takes a text that is usable, and a verifier of it and of those besides. */
 static uint32_t
 ngx_http_jwt_replace_text(ngx_http_jwt_source_t *source, ngx_str_t *text,
@@ -488,21 +492,31 @@ ngx_http_jwt_replace_text(ngx_http_jwt_source_t *source, ngx_str_t *text,
 {
     uint32_t                status;
     ngx_str_t               last = source->text;
-    struct jwt_handle       next = JWT_NONE;
+    struct jwt_handle       joined = JWT_NONE, none = JWT_NONE, before;
     ngx_http_jwt_source_t  *first = source->first;
+    ngx_http_jwt_rules_t   *rules = source->rules;
 
+    before = first->verifier;
+    first->verifier = none;
     source->text = *text;
-    status = ngx_http_jwt_make_verifier(first, keys,
-                                        ngx_http_jwt_prepared(first), &next);
+    status = ngx_http_jwt_make_verifier(first, keys, 1, &first->verifier);
+    if (status == JWT_OK) {
+        status = ngx_http_jwt_join_verifiers(rules, &joined);
+    }
+
     if (status != JWT_OK) {
+        jwt_free(&joined);
+        jwt_free(&first->verifier);
+        first->verifier = before;
         source->text = last;
         return status;
     }
 
     ngx_free(last.data);
-    jwt_free(&first->verifier);
-    first->verifier = next;
-    source->rules->sets++;
+    jwt_free(&before);
+    jwt_free(&rules->verifier);
+    rules->verifier = joined;
+    rules->sets++;
 
     return JWT_OK;
 }
@@ -552,12 +566,13 @@ ngx_http_jwt_take_set(ngx_http_jwt_source_t *source, ngx_array_t *set,
     uint32_t   status = JWT_OK;
     ngx_str_t  text = { set->nelts, set->elts };
 
-    if (!source->has_set || !ngx_http_jwt_is_same_text(&source->text, &text)) {
+    if (source->text.len == 0
+        || !ngx_http_jwt_is_same_text(&source->text, &text))
+    {
         status = ngx_http_jwt_replace_set(source, &text, keys);
     }
 
     if (status == JWT_OK) {
-        source->has_set = 1;
         source->is_failing = 0;
         source->fetched = ngx_time();
     }

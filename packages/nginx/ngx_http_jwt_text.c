@@ -5,48 +5,64 @@
     "abcdefghijklmnopqrstuvwxyzABCDEFGHIJKLMNOPQRSTUVWXYZ0123456789_"
 
 
-/* Allocates the result of a call of the library. */
+/* Reads a part of a token, of which nothing is verified. */
 uint32_t
-ngx_http_jwt_write(ngx_http_jwt_call_pt call, ngx_pool_t *pool, ngx_str_t *in,
-    ngx_str_t *out)
+ngx_http_jwt_read_part(ngx_pool_t *pool, ngx_str_t *token, uint32_t part,
+    ngx_str_t *json)
 {
     size_t    size;
     uint32_t  status;
 
-    out->len = in->len + NGX_HTTP_JWT_ROOM;
+    json->len = token->len;
 
     do {
-        size = out->len;
-        out->data = ngx_pnalloc(pool, size);
-        if (out->data == NULL) {
+        size = json->len;
+        json->data = ngx_pnalloc(pool, size);
+        if (json->data == NULL) {
             return JWT_OUT_OF_MEMORY;
         }
 
-        status = call((char *) in->data, in->len, (char *) out->data, size,
-                      &out->len);
+        status = jwt_unverified(ngx_http_jwt_args(token), part,
+                                (char *) json->data, size, &json->len);
     } while (status == JWT_BUFFER_TOO_SMALL);
 
     return status;
 }
 
 
-/* The call for the header of a token. */
-enum jwt_status
-ngx_http_jwt_header(const char *token, size_t token_len, char *buffer,
-    size_t buffer_len, size_t *len)
+/* Writes texts as a list of strings in JSON. */
+uint32_t
+ngx_http_jwt_write_list(ngx_pool_t *pool, ngx_str_t *texts, ngx_uint_t n,
+    ngx_str_t *list)
 {
-    return jwt_unverified(token, token_len, JWT_HEADER, buffer, buffer_len,
-                          len);
-}
+    size_t       len, size = sizeof("[]") - 1;
+    u_char      *p, *last;
+    uint32_t     status = JWT_OK;
+    ngx_uint_t   i;
 
+    for (i = 0; i < n; i++) {
+        /* a string is at most six times as long as its text, and a comma */
+        size += 6 * texts[i].len + sizeof("\"\",") - 1;
+    }
 
-/* The call for the payload of a token, of which nothing is verified. */
-enum jwt_status
-ngx_http_jwt_payload(const char *token, size_t token_len, char *buffer,
-    size_t buffer_len, size_t *len)
-{
-    return jwt_unverified(token, token_len, JWT_PAYLOAD, buffer, buffer_len,
-                          len);
+    p = ngx_pnalloc(pool, size);
+    if (p == NULL) {
+        return JWT_OUT_OF_MEMORY;
+    }
+
+    list->data = p;
+    last = p + size;
+
+    for (i = 0; i < n && status == JWT_OK; i++) {
+        *p++ = i == 0 ? '[' : ',';
+        status = jwt_quote(ngx_http_jwt_args(&texts[i]), (char *) p, last - p,
+                           &len);
+        p += len;
+    }
+
+    *p++ = ']';
+    list->len = p - list->data;
+    return status;
 }
 
 
@@ -80,24 +96,18 @@ ngx_http_jwt_is_same_text(ngx_str_t *a, ngx_str_t *b)
 }
 
 
-/* Returns whether a text is UTF-8 without control characters. */
 ngx_uint_t
-ngx_http_jwt_is_plain(ngx_str_t *text)
+ngx_http_jwt_has_control(ngx_str_t *text)
 {
-    u_char    *p, *last;
-    uint32_t   c;
+    u_char  *p;
 
-    last = text->data + text->len;
-
-    for (p = text->data; p < last; p += c < 0x80) {
-        c = *p < 0x80 ? *p : ngx_utf8_decode(&p, last - p);
-
-        if (c < 0x20 || c == 0x7f || c > 0x10ffff) {
-            return 0;
+    for (p = text->data; p < text->data + text->len; p++) {
+        if (*p < 0x20 || *p == 0x7f) {
+            return 1;
         }
     }
 
-    return 1;
+    return 0;
 }
 
 

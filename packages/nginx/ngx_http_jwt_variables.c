@@ -1,11 +1,12 @@
 #include "ngx_http_jwt.h"
 
 
-/* where a claim is found, and the text that it has to have */
+/* what a variable shows */
 typedef struct {
-    ngx_str_t   *names;     /* of members, from the claims inwards */
-    ngx_uint_t   count;     /* of names, at least 1 */
-    ngx_str_t    text;      /* empty for the variable of the claim itself */
+    ngx_str_t   path;       /* a list of names in JSON */
+    ngx_str_t   text;       /* to be found there; empty for the value itself */
+    unsigned    is_header:1;  /* and not of the claims */
+    unsigned    is_kid:1;   /* of a refused token */
 } ngx_http_jwt_path_t;
 
 
@@ -147,65 +148,22 @@ ngx_http_jwt_find_ctx(ngx_http_request_t *r)
 static ngx_int_t
 ngx_http_jwt_escape(ngx_pool_t *pool, ngx_str_t *value, ngx_uint_t is_kid)
 {
-    ngx_str_t  json;
+    ngx_str_t  list;
 
-    if (!is_kid && ngx_http_jwt_is_plain(value)
+    if (!is_kid && !ngx_http_jwt_has_control(value)
         && (value->len == 0 || value->data[0] != '"'))
     {
         return NGX_OK;
     }
 
-    if (ngx_http_jwt_write(jwt_quote, pool, value, &json) != JWT_OK) {
+    if (ngx_http_jwt_write_list(pool, value, 1, &list) != JWT_OK) {
         return NGX_ERROR;
     }
 
-    value->data = json.data + is_kid;
-    value->len = json.len - 2 * is_kid;
+    /* without the brackets */
+    value->data = list.data + 1 + is_kid;
+    value->len = list.len - 2 - 2 * is_kid;
     return NGX_OK;
-}
-
-
-/*
- * Reads a member of an object.  Returns NGX_DECLINED if there is none, if it
- * is a kid that is not a string, or if it has a number that is not a 64-bit
- * integer: the library writes the nearest double, which other numbers share.
- */
-static ngx_int_t
-ngx_http_jwt_read_member(ngx_pool_t *pool, ngx_str_t *object, ngx_str_t *name,
-    ngx_uint_t is_kid, ngx_str_t *value)
-{
-    u_char    *buffer;
-    uint32_t   type, status;
-
-    /* {"":VALUE}, which is what jwt_check_numbers reads */
-    buffer = ngx_pnalloc(pool, object->len + 5);
-    if (buffer == NULL) {
-        return NGX_ERROR;
-    }
-
-    value->data = ngx_cpymem(buffer, "{\"\":", 4);
-    status = jwt_member((char *) object->data, object->len,
-                        (char *) name->data, name->len, &type,
-                        (char *) value->data, object->len, &value->len);
-
-    if (status == JWT_OK && type == JWT_STRING) {
-        return ngx_http_jwt_escape(pool, value, is_kid);
-    }
-
-    if (status == JWT_OK && is_kid) {
-        return NGX_DECLINED;
-    }
-
-    if (status == JWT_OK) {
-        value->data[value->len] = '}';
-        status = jwt_check_numbers((char *) buffer, value->len + 5);
-    }
-
-    if (status == JWT_NO_MEMBER || status == JWT_JSON) {
-        return NGX_DECLINED;
-    }
-
-    return status == JWT_OK ? NGX_OK : NGX_ERROR;
 }
 
 
@@ -222,206 +180,203 @@ ngx_http_jwt_set_value(ngx_http_variable_value_t *v, u_char *data, size_t len)
 }
 
 
-/* jwt_claim_NAME, jwt_header_NAME and jwt_refused_kid: data is such a text. */
+/* Sets a variable to the value at a path of an object, if there is one. */
 static ngx_int_t
-ngx_http_jwt_member_variable(ngx_http_request_t *r,
+ngx_http_jwt_set_member(ngx_http_request_t *r, ngx_http_variable_value_t *v,
+    ngx_str_t *object, ngx_http_jwt_path_t *path)
+{
+    uint32_t   type, status;
+    ngx_str_t  value;
+
+    value.data = ngx_pnalloc(r->pool, object->len);
+    if (value.data == NULL) {
+        return NGX_ERROR;
+    }
+
+    status = jwt_member(ngx_http_jwt_args(object),
+                        ngx_http_jwt_args(&path->path), &type,
+                        (char *) value.data, object->len, &value.len);
+
+    if (status == JWT_NO_MEMBER
+        || (status == JWT_OK && path->is_kid && type != JWT_STRING))
+    {
+        return NGX_OK;
+    }
+
+    if (status != JWT_OK
+        || (type == JWT_STRING
+            && ngx_http_jwt_escape(r->pool, &value, path->is_kid) != NGX_OK))
+    {
+        return NGX_ERROR;
+    }
+
+    return ngx_http_jwt_set_value(v, value.data, value.len);
+}
+
+
+/* data is a path */
+static ngx_int_t
+ngx_http_jwt_path_variable(ngx_http_request_t *r,
     ngx_http_variable_value_t *v, uintptr_t data)
 {
-    ngx_int_t            rc;
-    ngx_str_t            name = *(ngx_str_t *) data, object, value;
-    ngx_uint_t           is_kid = name.data[4] == 'r';
-    ngx_http_jwt_ctx_t  *ctx;
+    uint32_t              status;
+    ngx_str_t             object;
+    ngx_http_jwt_ctx_t   *ctx;
+    ngx_http_jwt_path_t  *path = (ngx_http_jwt_path_t *) data;
 
     v->not_found = 1;
     ctx = ngx_http_jwt_find_ctx(r);
 
     if (ctx == NULL || ctx->token.len == 0
-        || is_kid == (ctx->status == JWT_OK))
+        || path->is_kid == (ctx->status == JWT_OK))
     {
         return NGX_OK;
     }
 
     object = ctx->claims;
 
-    if (name.data[4] != 'c'
-        && ngx_http_jwt_write(ngx_http_jwt_header, r->pool, &ctx->token,
-                              &object)
+    if (path->is_header
+        && ngx_http_jwt_read_part(r->pool, &ctx->token, JWT_HEADER, &object)
            != JWT_OK)
     {
-        return is_kid ? NGX_OK : NGX_ERROR;
-    }
-
-    value.data = ngx_strlchr(name.data + 4, name.data + name.len, '_') + 1;
-    name.len -= value.data - name.data;
-    name.data = value.data;
-
-    rc = ngx_http_jwt_read_member(r->pool, &object, &name, is_kid, &value);
-    if (rc != NGX_OK) {
-        return rc == NGX_DECLINED ? NGX_OK : NGX_ERROR;
-    }
-
-    return ngx_http_jwt_set_value(v, value.data, value.len);
-}
-
-
-/* Replaces an object by its member of a name, if that is an object too. */
-static ngx_int_t
-ngx_http_jwt_enter(ngx_pool_t *pool, ngx_str_t *name, ngx_str_t *object)
-{
-    size_t     len;
-    u_char    *buffer;
-    uint32_t   type, status;
-
-    buffer = ngx_pnalloc(pool, object->len);
-    if (buffer == NULL) {
-        return NGX_ERROR;
-    }
-
-    status = jwt_member((char *) object->data, object->len,
-                        (char *) name->data, name->len, &type,
-                        (char *) buffer, object->len, &len);
-
-    if (status == JWT_NO_MEMBER || (status == JWT_OK && type != JWT_OBJECT)) {
-        return NGX_DECLINED;
-    }
-
-    object->data = buffer;
-    object->len = len;
-
-    return status == JWT_OK ? NGX_OK : NGX_ERROR;
-}
-
-
-/* Reads what a path leads to: the claim, or 1 if it has the text. */
-static ngx_int_t
-ngx_http_jwt_read_path(ngx_pool_t *pool, ngx_str_t *claims,
-    ngx_http_jwt_path_t *path, ngx_str_t *value)
-{
-    uint32_t    status;
-    ngx_int_t   rc;
-    ngx_str_t   object = *claims, *name;
-
-    for (name = path->names; name < path->names + path->count - 1; name++) {
-        rc = ngx_http_jwt_enter(pool, name, &object);
-        if (rc != NGX_OK) {
-            return rc;
-        }
+        return path->is_kid ? NGX_OK : NGX_ERROR;
     }
 
     if (path->text.len == 0) {
-        return ngx_http_jwt_read_member(pool, &object, name, 0, value);
+        return ngx_http_jwt_set_member(r, v, &object, path);
     }
 
-    ngx_str_set(value, "1");
-    status = jwt_check_member((char *) object.data, object.len,
-                              (char *) name->data, name->len,
-                              (char *) path->text.data, path->text.len);
+    status = jwt_check_member(ngx_http_jwt_args(&object),
+                              ngx_http_jwt_args(&path->path),
+                              ngx_http_jwt_args(&path->text));
 
-    return status == JWT_OK ? NGX_OK
-           : status == JWT_NO_MEMBER ? NGX_DECLINED : NGX_ERROR;
+    return status == JWT_OK ? ngx_http_jwt_set_value(v, (u_char *) "1", 1)
+           : status == JWT_NO_MEMBER ? NGX_OK : NGX_ERROR;
 }
 
 
-/* A variable of auth_jwt_claim or of auth_jwt_contains: data is its path. */
+/* Sets a variable to the member whose name follows a prefix. */
 static ngx_int_t
-ngx_http_jwt_path_variable(ngx_http_request_t *r,
+ngx_http_jwt_set_named(ngx_http_request_t *r, ngx_http_variable_value_t *v,
+    ngx_str_t name, size_t prefix, ngx_uint_t is_header)
+{
+    uint32_t             status;
+    ngx_http_jwt_path_t  path = { ngx_null_string, ngx_null_string, 0, 0 };
+
+    path.is_header = is_header;
+    name.data += prefix;
+    name.len -= prefix;
+    status = ngx_http_jwt_write_list(r->pool, &name, 1, &path.path);
+
+    if (status == JWT_OK) {
+        return ngx_http_jwt_path_variable(r, v, (uintptr_t) &path);
+    }
+
+    /* SSI may name a variable by other bytes */
+    v->not_found = 1;
+    return status == JWT_UTF8 ? NGX_OK : NGX_ERROR;
+}
+
+
+/* jwt_claim_NAME: data is this name. */
+static ngx_int_t
+ngx_http_jwt_claim_variable(ngx_http_request_t *r,
     ngx_http_variable_value_t *v, uintptr_t data)
 {
-    ngx_int_t            rc;
-    ngx_str_t            value;
-    ngx_http_jwt_ctx_t  *ctx;
-
-    v->not_found = 1;
-    ctx = ngx_http_jwt_find_ctx(r);
-
-    if (ctx == NULL || ctx->token.len == 0 || ctx->status != JWT_OK) {
-        return NGX_OK;
-    }
-
-    rc = ngx_http_jwt_read_path(r->pool, &ctx->claims,
-                                (ngx_http_jwt_path_t *) data, &value);
-    if (rc != NGX_OK) {
-        return rc == NGX_DECLINED ? NGX_OK : NGX_ERROR;
-    }
-
-    return ngx_http_jwt_set_value(v, value.data, value.len);
+    return ngx_http_jwt_set_named(r, v, *(ngx_str_t *) data,
+                                  sizeof("jwt_claim_") - 1, 0);
 }
 
 
-/* Returns the text of what this module found, or NULL. */
-static const char *
-ngx_http_jwt_own_text(ngx_http_jwt_ctx_t *ctx, ngx_uint_t is_test)
-{
-    if (is_test) {
-        return ctx->test == NGX_HTTP_JWT_ISSUER_TEST ? "IssuerIsOneText"
-               : NULL;
-    }
-
-    if (ctx->has_several) {
-        return "SeveralTokens";
-    }
-
-    return ctx->token.len == 0 ? "NoToken" : NULL;
-}
-
-
-/* jwt_status and jwt_failed_test: data is the name. */
+/* jwt_header_NAME: data is this name. */
 static ngx_int_t
-ngx_http_jwt_text_variable(ngx_http_request_t *r,
+ngx_http_jwt_header_variable(ngx_http_request_t *r,
     ngx_http_variable_value_t *v, uintptr_t data)
 {
-    size_t               len;
-    u_char              *text;
-    const char          *own;
-    ngx_uint_t           is_test = ((ngx_str_t *) data)->data[4] == 'f';
-    ngx_http_jwt_ctx_t  *ctx;
+    return ngx_http_jwt_set_named(r, v, *(ngx_str_t *) data,
+                                  sizeof("jwt_header_") - 1, 1);
+}
 
-    v->not_found = 1;
-    ctx = ngx_http_jwt_find_ctx(r);
 
-    if (ctx != NULL && is_test && ctx->unmet.len > 0) {
-        return ngx_http_jwt_set_value(v, ctx->unmet.data, ctx->unmet.len);
-    }
-
-    if (ctx == NULL || (is_test && ctx->test == 0)) {
-        return NGX_OK;
-    }
-
-    own = ngx_http_jwt_own_text(ctx, is_test);
-    if (own != NULL) {
-        return ngx_http_jwt_set_value(v, (u_char *) own, ngx_strlen(own));
-    }
+/* Sets a variable to the text of a number of one of the library's tables. */
+static ngx_int_t
+ngx_http_jwt_set_text(ngx_http_request_t *r, ngx_http_variable_value_t *v,
+    uint32_t of, uint32_t number)
+{
+    char    *text;
+    size_t   len;
 
     text = ngx_pnalloc(r->pool, NGX_HTTP_JWT_TEXT);
 
-    if (text == NULL
-        || jwt_text(is_test ? JWT_OF_TEST : JWT_OF_STATUS,
-                    is_test ? ctx->test : ctx->status, (char *) text,
-                    NGX_HTTP_JWT_TEXT, &len)
-           != JWT_OK)
-    {
-        return NGX_ERROR;
+    return text != NULL
+           && jwt_text(of, number, text, NGX_HTTP_JWT_TEXT, &len) == JWT_OK
+           ? ngx_http_jwt_set_value(v, (u_char *) text, len) : NGX_ERROR;
+}
+
+
+static ngx_int_t
+ngx_http_jwt_status_variable(ngx_http_request_t *r,
+    ngx_http_variable_value_t *v, uintptr_t data)
+{
+    u_char              *own;
+    ngx_http_jwt_ctx_t  *ctx;
+
+    v->not_found = 1;
+    ctx = ngx_http_jwt_find_ctx(r);
+    if (ctx == NULL) {
+        return NGX_OK;
     }
 
-    return ngx_http_jwt_set_value(v, text, len);
+    if (ctx->token.len == 0) {
+        own = (u_char *) (ctx->has_several ? "SeveralTokens" : "NoToken");
+        return ngx_http_jwt_set_value(v, own, ngx_strlen(own));
+    }
+
+    /* of the claims iss alone has to be a text */
+    return ngx_http_jwt_set_text(r, v, JWT_OF_STATUS,
+                                 ctx->status == JWT_MALFORMED_CLAIM
+                                 ? JWT_MALFORMED_ISS : ctx->status);
 }
+
+
+static ngx_int_t
+ngx_http_jwt_test_variable(ngx_http_request_t *r,
+    ngx_http_variable_value_t *v, uintptr_t data)
+{
+    ngx_http_jwt_ctx_t  *ctx;
+
+    v->not_found = 1;
+    ctx = ngx_http_jwt_find_ctx(r);
+
+    if (ctx != NULL && ctx->unmet.len > 0) {
+        return ngx_http_jwt_set_value(v, ctx->unmet.data, ctx->unmet.len);
+    }
+
+    return ctx == NULL || ctx->said.test == 0 ? NGX_OK
+           : ngx_http_jwt_set_text(r, v, JWT_OF_TEST, ctx->said.test);
+}
+
+
+static ngx_http_jwt_path_t  ngx_http_jwt_refused_kid = {
+    ngx_string("[\"kid\"]"), ngx_null_string, 1, 1
+};
 
 
 static ngx_http_variable_t  ngx_http_jwt_variables[] = {
 
-    { ngx_string("jwt_status"), NULL, ngx_http_jwt_text_variable, 0,
+    { ngx_string("jwt_status"), NULL, ngx_http_jwt_status_variable, 0,
       NGX_HTTP_VAR_NOCACHEABLE, 0 },
 
-    { ngx_string("jwt_failed_test"), NULL, ngx_http_jwt_text_variable, 0,
+    { ngx_string("jwt_failed_test"), NULL, ngx_http_jwt_test_variable, 0,
       NGX_HTTP_VAR_NOCACHEABLE, 0 },
 
-    { ngx_string("jwt_refused_kid"), NULL, ngx_http_jwt_member_variable, 0,
-      NGX_HTTP_VAR_NOCACHEABLE, 0 },
+    { ngx_string("jwt_refused_kid"), NULL, ngx_http_jwt_path_variable,
+      (uintptr_t) &ngx_http_jwt_refused_kid, NGX_HTTP_VAR_NOCACHEABLE, 0 },
 
-    { ngx_string("jwt_claim_"), NULL, ngx_http_jwt_member_variable, 0,
+    { ngx_string("jwt_claim_"), NULL, ngx_http_jwt_claim_variable, 0,
       NGX_HTTP_VAR_NOCACHEABLE|NGX_HTTP_VAR_PREFIX, 0 },
 
-    { ngx_string("jwt_header_"), NULL, ngx_http_jwt_member_variable, 0,
+    { ngx_string("jwt_header_"), NULL, ngx_http_jwt_header_variable, 0,
       NGX_HTTP_VAR_NOCACHEABLE|NGX_HTTP_VAR_PREFIX, 0 },
 
       ngx_http_null_variable
@@ -440,7 +395,7 @@ ngx_http_jwt_add_variables(ngx_conf_t *cf)
         }
 
         var->get_handler = v->get_handler;
-        var->data = (uintptr_t) &v->name;
+        var->data = v->data;
     }
 
     return NGX_OK;
@@ -552,6 +507,7 @@ static char *
 ngx_http_jwt_path(ngx_conf_t *cf, ngx_uint_t has_text,
     ngx_http_jwt_path_t *path)
 {
+    uint32_t     status;
     ngx_str_t   *value = cf->args->elts;
     ngx_uint_t   i, n = cf->args->nelts;
 
@@ -559,21 +515,17 @@ ngx_http_jwt_path(ngx_conf_t *cf, ngx_uint_t has_text,
         return "takes $variable, names and at last a text";
     }
 
+    status = ngx_http_jwt_write_list(cf->temp_pool, &value[2], n - 2,
+                                     &path->path);
+
     for (i = 2; i < n; i++) {
-        if (value[i].len == 0 || !ngx_http_jwt_is_plain(&value[i])) {
+        if (status == JWT_UTF8 || value[i].len == 0
+            || ngx_http_jwt_has_control(&value[i]))
+        {
             return "takes names and texts that are UTF-8 without control "
                    "characters, and not empty";
         }
     }
-
-    path->count = n - 2 - has_text;
-    path->names = ngx_palloc(cf->pool, path->count * sizeof(ngx_str_t));
-    if (path->names == NULL) {
-        return NGX_CONF_ERROR;
-    }
-
-    /* nginx uses the array again */
-    ngx_memcpy(path->names, &value[2], path->count * sizeof(ngx_str_t));
 
     if (has_text) {
         path->text = value[n - 1];
@@ -583,7 +535,10 @@ ngx_http_jwt_path(ngx_conf_t *cf, ngx_uint_t has_text,
         }
     }
 
-    return NGX_CONF_OK;
+    status = ngx_http_jwt_write_list(cf->pool, &value[2], n - 2 - has_text,
+                                     &path->path);
+
+    return status == JWT_OK ? NGX_CONF_OK : NGX_CONF_ERROR;
 }
 
 

@@ -301,7 +301,8 @@ def refused(server):
     test("no kid ends the quotes of the log", '"KeyIsFound" "\\x5C\\x22 200 OK \\x5C\\x22' in server.read("access.log"))
     status, headers = server.get("/", "x" * (1024 * 1024 + 1))
     test(f"a token of more than 1 MiB: {status} {headers['X-Status']}", status == 401 and headers["X-Status"] == "Token too long")
-    payload = json.dumps({**PASS, "sub": "ada"})[:-1] + ',"list":[' + ",".join(["1E9"] * 200) + "]}"
+    # a name that comes twice, so that the claims are written anew
+    payload = json.dumps({**PASS, "sub": "ada"})[:-1] + ',"a":1,"a":2,"list":[' + ",".join(["1E9"] * 200) + "]}"
     status, headers = server.get("/", signed(payload.encode()))
     test(f"claims that are longer than their token: {status}", status == 200 and headers["X-Sub"] == "ada")
 
@@ -336,7 +337,7 @@ BAD = [
     ("an issuer of one of two", "auth_jwt r; auth_jwt_key_file {work}/keys.json iss=a; auth_jwt_key_file {work}/keys.json; auth_jwt_alg HS256;", 'keys.json" needs iss= if other keys have it'),
     ("an issuer of the second of two", "auth_jwt r; auth_jwt_key_file {work}/keys.json; auth_jwt_key_request /keys iss=a; auth_jwt_alg HS256; location = /keys {{ }}", 'auth_jwt_key_request "/keys" needs iss= if other keys have it'),
     ("an issuer besides others", "auth_jwt_iss a; auth_jwt_alg HS256; location /a {{ auth_jwt r; auth_jwt_key_file {work}/keys.json iss=a; }}", 'keys.json" has iss= besides auth_jwt_iss in'),
-    ("an empty issuer of keys", "auth_jwt_key_file {work}/keys.json iss=;", 'auth_jwt_key_file "": "iss" has an empty text in'),
+    ("an empty issuer of keys", "auth_jwt_key_file {work}/keys.json iss=;", 'auth_jwt_key_file: "iss" has an empty text in'),
     ("a variable as issuer of keys", "auth_jwt_key_request /keys iss=$host;", '"auth_jwt_key_request" directive takes no variables in'),
     ("an issuer of keys that is not UTF-8", "auth_jwt_key_file {work}/keys.json iss=\udcff;", '"auth_jwt_key_file" directive takes names that are UTF-8 in'),
     ("an issuer of keys without its word", "auth_jwt_key_file {work}/keys.json https://login.example;", '"auth_jwt_key_file" directive takes iss=NAME as its second argument'),
@@ -382,8 +383,8 @@ BAD = [
     ("a cache of 63 bits", "auth_jwt_cache 9223372036854775807;", "value must be between 0 and 1048576"),
     ("too large a cache", "auth_jwt_cache 1048577;", "value must be between 0 and 1048576"),
     ("two caches", "auth_jwt_cache 1; auth_jwt_cache 1;", "duplicate"),
-    ("an empty audience", 'auth_jwt_aud web "";', 'auth_jwt_aud "": "aud" has an empty text in'),
-    ("an empty issuer", 'auth_jwt_iss "";', 'auth_jwt_iss "": "iss" has an empty text in'),
+    ("an empty audience", 'auth_jwt_aud web "";', 'auth_jwt_aud: "aud" has an empty text in'),
+    ("an empty issuer", 'auth_jwt_iss "";', 'auth_jwt_iss: "iss" has an empty text in'),
     *(
         (f"an audience that is not UTF-8: {it!r}", f"auth_jwt_aud web {it};", '"auth_jwt_aud" directive takes names that are UTF-8 in')
         # a byte of none, a surrogate, and a character that is cut
@@ -962,7 +963,7 @@ def quoted(text):
 
 def options_of(audiences, issuers):
     """Returns the text of the options that the module makes of these."""
-    options = {"strict": True, "leeway": 0, "algorithms": ["HS256"], "aud": audiences, "iss": issuers}
+    options = {"strict": True, "leeway": 0, "algorithms": ["HS256"], "aud": audiences, "iss": issuers, "texts": None}
     return json.dumps(options, separators=(",", ":"), ensure_ascii=False).encode()
 
 
@@ -1169,7 +1170,8 @@ def required(server):
         ("/claim", {"scope": ""}, 401),
         ("/claim", {"scope": "0"}, 401),
         ("/claim", {"scope": 0}, 401),
-        ("/claim", {"scope": 1.5}, 401),
+        ("/claim", {"scope": 1.5}, 200),
+        ("/claim", {"scope": 0.0}, 200),
         ("/claim", {"scope": "00"}, 401, "$jwt_claim_scope"),
         ("/claim", {"scope": "0" * 1000}, 401),
         ("/claim", {"scope": "0" * 1000 + "1"}, 200),
@@ -1248,10 +1250,18 @@ def claims(server):
     test(f"texts: {plain}", all(it == text for it, text in plain.items()))
     for value, text in (
         (7, "7"), (-7, "-7"), (2**64 - 1, str(2**64 - 1)), (-(2**63), str(-(2**63))), (True, "true"), (None, "null"), ([1, {"a": "]"}], '[1,{"a":"]"}]'),
-        (2**64, ""), (18446744073709551617, ""), (18446744073709551999, ""), (-(2**63) - 1, ""), (1.5, ""), ([1, 2**64], ""), ({"a": [{"b": 1e30}]}, ""), ("1e30", "1e30"),
+        (2**64, str(2**64)), (-(2**63) - 1, str(-(2**63) - 1)), (1.5, "1.5"), ([1, 2**64], f"[1,{2**64}]"), ({"b": [{"a": 1e30}], "a": {}}, '{"b":[{"a":1e+30}],"a":{}}'), ("1e30", "1e30"),
     ):
         got = ask(value=value)["Value"]
         test(f"a claim {value}: {got}", got == text)
+    # the digits are those of the token, and with a name that comes twice those that Python writes for the double
+    for number in ("1.10", "0.10", "-0", "-0.0", "1E30", "1e-400", "100000000000000000000000", "12345678901234567890.10", "9" * 300):
+        for value, text in ((number, number), (f'{{"z": {number} , "a":[{number}]}}', f'{{"z":{number},"a":[{number}]}}')):
+            _, headers = server.get("/claims", signed(f'{{"exp": {PASS["exp"]}, "value": {value} }}'.encode()))
+            test(f"the number {value[:40]}: {headers['X-Value']}", headers["X-Value"] == text)
+    for more in ('"a":1,"a":2', '"b":[{"a":1,"a":2}]', '"a":1,"\\u0061":2', f'"exp":{PASS["exp"]}'):
+        _, headers = server.get("/claims", signed(f'{{"exp":{PASS["exp"]},"value":1.10,{more}}}'.encode()))
+        test(f"a number beside {more}: {headers['X-Value']}", headers["X-Value"] == json.dumps(1.10))
 
 
 def deep_claims(server):
@@ -1280,8 +1290,8 @@ def deep_claims(server):
         (at('"x"'), '"\\"x\\""', ""),
         (at(7), "7", ""),
         (at(None), "null", ""),
-        (at(2**64), "", ""),
-        (at([2**64, text]), "", "1"),
+        (at(2**64), str(2**64), ""),
+        (at([2**64, text]), f'[{2**64},"one text"]', "1"),
         ({"n": 1.5, **at([text])}, '["one text"]', "1"),
         (at([text], "a", "b.c", "d e"), "", ""),
         (at([text], "a", "b.c", "d e", "f", "f"), '{"f":["one text"]}', ""),

@@ -49,6 +49,8 @@ FETCHED = """
         auth_jwt bound; auth_jwt_key_file {work}/last.json iss=b.example; auth_jwt_key_request /keys iss=a.example;
         auth_jwt_key_request /others iss=b.example;
     }}
+    location /bound_single {{ auth_jwt bound; auth_jwt_key_file {work}/single.json iss=b.example; auth_jwt_key_request /keys iss=a.example; }}
+    location /bound_first {{ auth_jwt bound; auth_jwt_key_request /keys iss=a.example; auth_jwt_key_request /others iss=b.example; }}
     location = /others {{ internal; proxy_pass http://127.0.0.1:{others}/jwks; }}
     location /named {{ auth_jwt named; auth_jwt_key_file {work}/a.json; auth_jwt_iss a.example; }}
     location /bound_files {{ auth_jwt bound; auth_jwt_key_file {work}/a.json iss=a.example; auth_jwt_key_file {work}/single.json iss=b.example; }}
@@ -635,30 +637,35 @@ def bound(server):
         test(f"{name}: {got}, fetches {asked()}, wanted {wanted} {fetches}", got == wanted and asked() == fetches)
 
     accepted, other_signature, other_issuer, no_key = (200, "OK"), (401, "InvalidSignature"), (401, "InvalidIssuer"), (401, "NoKey")
+    no_text = 401, "Invalid format for claim: iss"
+    # of the refusals by both, that of the later test
     for name, wanted, *given in (
         ("a set", accepted, "a", "a.example"),
         ("a single key", accepted, "b", "b.example"),
         ("a single key by a kid of the set", accepted, "a", "b.example", "b"),
-        ("the key of one in the name of the other", other_signature, "a", "b.example"),
-        ("the single key in the name of the other", no_key, "b", "a.example"),
-        ("the single key in the name of the other, by its kid", other_signature, "a", "a.example", "b"),
+        ("the key of one in the name of the other", other_issuer, "a", "b.example"),
+        ("the single key in the name of the other", other_issuer, "b", "a.example"),
+        ("the single key in the name of the other, by its kid", other_issuer, "a", "a.example", "b"),
+        ("neither's key", other_signature, "a", "a.example", "h"),
+        ("neither's key, in the name of the other", other_signature, "a", "b.example", "h"),
+        ("neither's key by a kid of none", other_signature, "c", "a.example"),
         ("another name", other_issuer, "a", "c.example"),
-        ("another name, signed by nobody", other_issuer, "a", "c.example", "h"),
+        ("another name, by the single key", other_issuer, "b", "c.example"),
+        ("another name, signed by nobody", other_signature, "a", "c.example", "h"),
         ("a part of its name", other_issuer, "a", "a.exampl"),
         ("its name in capitals", other_issuer, "a", "A.example"),
         ("an empty name", other_issuer, "a", ""),
-        ("no key", no_key, "c", "a.example"),
-        ("a list of its name", other_issuer, "a", ["a.example"]),
-        ("a list of both names", other_issuer, "a", ["a.example", "b.example"]),
-        ("a list of both names, by the single key", no_key, "b", ["b.example", "a.example"]),
+        ("a list of its name", no_text, "a", ["a.example"]),
+        ("a list of both names", no_text, "a", ["a.example", "b.example"]),
+        ("a list of both names, by the single key", no_text, "b", ["b.example", "a.example"]),
         ("a list of the other name", other_issuer, "a", ["b.example"]),
     ):
         tells(f"files, {name}", wanted, (0, 0), "/bound_files", *given)
     unnamed(server)
     calls = [server.ask("/bound_files", token(kid, iss=issuer, sub="once")) for kid, issuer in (("a", "a.example"), ("b", "b.example"), ("a", "b.example"), ("a", "c.example"))]
-    test(f"one verifier for a token: {calls}", calls == [(200, 1), (200, 1), (401, 1), (401, 0)])
+    test(f"one verifier for a token: {calls}", calls == [(200, 1), (200, 1), (401, 1), (401, 1)])
     got = [server.get(path, token("a", iss=["a.example", "x"]))[1]["X-Test"] for path in ("/bound_files", "/named")]
-    test(f"the test that a list fails: {got}", got == ["IssuerIsOneText", None])
+    test(f"the test that a list fails: {got}", got == ["FurtherRulesHold", None])
     test("a list as issuer without iss=", server.get("/named", token("a", iss=["x", "a.example"]))[0] == 200)
     tells("files, an expired token of the second", (401, "ExpiredSignature"), (0, 0), "/bound_files", "b", "b.example", exp=NOW - 5)
     # the first of them answers later
@@ -673,7 +680,7 @@ def bound(server):
     tells("a new key by a kid of the other, too early", no_key, (0, 0), "/bound", "a", "b.example", "c")
     later(server, PAUSE)
     tells("a new key by a kid of the other", accepted, (0, 1), "/bound", "a", "b.example", "c")
-    tells("that key in the name of the other", other_signature, (0, 0), "/bound", "a", "a.example", "c")
+    tells("that key in the name of the other", other_issuer, (0, 0), "/bound", "a", "a.example", "c")
     tells("a kid that the other alone has", no_key, (1, 0), "/bound", "b", "a.example")
     tells("that kid in its name", accepted, (0, 0), "/bound", "b", "b.example")
     tells("the other's key of that kid", accepted, (0, 0), "/bound", "a", "a.example")
@@ -723,8 +730,8 @@ def bound(server):
     tells("a key of the other's set, in its name", accepted, (0, 0), "/bound", "a", "a.example")
     tells("a key of the set before it", no_key, (0, 0), "/bound", "b", "b.example")
     tells("a key of the other's set, in the name of a file", no_key, (0, 0), "/bound", "a", "g.example")
-    for issuer in ("c.example", "", "a.example b.example", ["a.example"]):
-        tells(f"a key of the other's set, in the name {issuer}", other_issuer, (0, 0), "/bound", "a", issuer)
+    for issuer, wanted in (("c.example", other_issuer), ("", other_issuer), ("a.example b.example", other_issuer), (["a.example"], no_text)):
+        tells(f"a key of the other's set, in the name {issuer}", wanted, (0, 0), "/bound", "a", issuer)
     # a file and a fetched set of one issuer are one set
     server.keys.answer, server.others.answer = whole(keys("a")), whole(keys("bcd"))
     tells("a file and a set of its issuer, before the set", accepted, (1, 1), "/bound_both", "c", "b.example", "h")
@@ -736,6 +743,32 @@ def bound(server):
     server.others.answer = whole(keys("bcde"))
     tells("a new kid", accepted, (0, 1), "/bound_both", "e", "b.example")
     tells("a key of the other, in this name", no_key, (0, 0), "/bound_both", "a", "b.example")
+    # a single key refuses each token of the other issuer by its signature, also one with a key that the set does not have yet
+    server.keys.answer = whole(keys("a"))
+    tells("a single key beside a set, before the set", accepted, (1, 0), "/bound_single", "b", "b.example")
+    test("the set comes too", eventually(lambda: server.get("/bound_single", token("a", iss="a.example"))[0] == 200))
+    tells("a kid of none beside a single key, too early", no_key, (0, 0), "/bound_single", "c", "a.example")
+    server.keys.answer = whole(keys("c"))
+    later(server, PAUSE)
+    tells("a new kid beside a single key", accepted, (1, 0), "/bound_single", "c", "a.example")
+    tells("the single key after it", accepted, (0, 0), "/bound_single", "b", "b.example")
+    tells("the single key in the name of the other", no_key, (0, 0), "/bound_single", "b", "a.example")
+    tells("a key before it", no_key, (0, 0), "/bound_single", "a", "a.example")
+    # before there is any set
+    server.keys.answer = server.others.answer = close
+    for name, issuer in (("another name", "c.example"), ("the name of one", "a.example")):
+        failed = server.read("error.log").count("auth_jwt: no keys from")
+        tells(f"{name}, before the first set", (503, "No verifier"), (1, 1), "/bound_first", "a", issuer)
+        test(f"{name}, both fetches failed", eventually(lambda: server.read("error.log").count("auth_jwt: no keys from") == failed + 2))
+        later(server, PAUSE)
+    server.others.answer = whole(keys("b"))
+    tells("the first set of one", accepted, (1, 1), "/bound_first", "b", "b.example")
+    tells("the other, before its set", (503, "No verifier"), (0, 0), "/bound_first", "a", "a.example")
+    tells("another name, beside one set", no_key, (0, 0), "/bound_first", "a", "c.example")
+    tells("an expired token of the one", (401, "ExpiredSignature"), (0, 0), "/bound_first", "b", "b.example", exp=NOW - 5)
+    server.keys.answer = whole(keys("a"))
+    later(server, PAUSE)
+    tells("the first set of the other", accepted, (1, 0), "/bound_first", "a", "a.example")
 
 
 def unnamed(server):

@@ -288,9 +288,9 @@ def renamed(it):
         test("README, the next address", eventually(lambda: other.status("/api/x", token()) == 404))
 
 
-# Values of a claim that meet auth_jwt_require, and values that do not. The variable of a fraction is empty.
-MET = [False, None, [], {}, [0], "no", "false", " ", "0 ", "0.0", "-0", "00x", "０"]
-UNMET = ["", "0", "00", "0" * 100, 0, 0.5, -0.0, {"x": 0.5}]
+# Values of a claim that meet auth_jwt_require, and values that do not.
+MET = [False, None, [], {}, [0], "no", "false", " ", "0 ", "0.0", "-0", "00x", "０", 0.0, -0.0, 0.5, {"x": 0.5}]
+UNMET = ["", "0", "00", "0" * 100, 0]
 
 
 def rules(it):

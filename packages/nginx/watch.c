@@ -11,12 +11,6 @@
 #include <sys/time.h>
 #include <unistd.h>
 
-typedef enum jwt_status decode(struct jwt_handle *, const char *, size_t,
-    uint64_t, char *, size_t, size_t *, uint64_t *, uint32_t *);
-typedef enum jwt_status add(struct jwt_handle *, uint32_t, const uint8_t *,
-    size_t, size_t *, size_t *);
-
-
 static ssize_t
 with_file(const char *name, int flags, char *text, size_t len)
 {
@@ -57,7 +51,7 @@ behind(const char *name)
     char   call = '.';
     void  *library;
 
-    library = dlopen("libjwtproved.so.0", RTLD_NOW | RTLD_NOLOAD);
+    library = dlopen("libjwtproved.so.1", RTLD_NOW | RTLD_NOLOAD);
 
     if (library == NULL
         || with_file(CALLS, O_WRONLY | O_APPEND | O_CREAT, &call, 1) != 1)
@@ -72,13 +66,11 @@ behind(const char *name)
 enum jwt_status
 jwt_verifier_decode(struct jwt_handle *verifier, const char *token,
     size_t token_len, uint64_t now, char *buffer, size_t buffer_len,
-    size_t *len, uint64_t *last, uint32_t *test)
+    struct jwt_verdict *said)
 {
-    decode  *found;
+    __typeof__(jwt_verifier_decode)  *found = behind("jwt_verifier_decode");
 
-    found = behind("jwt_verifier_decode");
-    return found(verifier, token, token_len, now, buffer, buffer_len, len,
-                 last, test);
+    return found(verifier, token, token_len, now, buffer, buffer_len, said);
 }
 
 
@@ -86,8 +78,7 @@ enum jwt_status
 jwt_keys_add(struct jwt_handle *keys, uint32_t source, const uint8_t *bytes,
     size_t bytes_len, size_t *items, size_t *kept)
 {
-    add  *found;
+    __typeof__(jwt_keys_add)  *found = behind("jwt_keys_add");
 
-    found = behind("jwt_keys_add");
     return found(keys, source, bytes, bytes_len, items, kept);
 }
