@@ -4,6 +4,7 @@ import os
 import subprocess
 import time
 
+from build.c_library import SONAME
 from build.kit import TOP
 from release import elf, unix
 from release.files import File, file, read, text, write_folder, zipped
@@ -13,9 +14,11 @@ MODULE = "ngx_http_jwt_module.so"
 CONFIGURATION = "mod-http-jwtproved.conf"
 SCRIPTS = "/usr/share/debhelper/autoscripts"
 ABOUT = "JSON Web Tokens by a proved library"
+# The name of a shared library's package ends with the number of its soname.
+LIBRARY = f"libjwtproved{SONAME}"
 # For each package: its section, its part of the first line of the description, and the lines that follow.
 PACKAGES = {
-    "libjwtproved0": ("libs", "shared library", "Programs verify tokens by it."),
+    LIBRARY: ("libs", "shared library", "Programs verify tokens by it."),
     "libjwtproved-dev": ("libdevel", "development files", "The header, the static library and the manual page of the library."),
     "jwtproved": ("utils", "command", "The command jwt verifies, explains, shows and signs tokens."),
     "libnginx-mod-http-jwtproved": ("httpd", "module for nginx", "The module lets a request pass if it has a valid token."),
@@ -57,14 +60,14 @@ def documents(it, name, proof):
 
 def library(it):
     found = {path: made._replace(mode=0o644) for path, made in unix.shared(it, LIBDIR).items()}
-    extra = {"shlibs": f"libjwtproved {it.major} libjwtproved{it.major} (>= {it.version})\n", "triggers": TRIGGER}
+    extra = {"shlibs": f"libjwtproved {SONAME} {LIBRARY} (>= {it.version})\n", "triggers": TRIGGER}
     return found, f"libc6 (>= {elf.glibc(it.shared)})", extra
 
 
 def development(it):
     pc = unix.pkg_config(it, "/usr", "/usr/include", f"/{LIBDIR}")
     found = unix.development(it, "usr/include", LIBDIR, pc) | unix.manual("usr/share", "packages/c/jwtproved.3", True)
-    return found, f"libjwtproved{it.major} (= {it.version})", {}
+    return found, f"{LIBRARY} (= {it.version})", {}
 
 
 def command(it):
@@ -99,10 +102,10 @@ def nginx(it):
     # as dh_nginx writes them for Debian's own modules
     extra = {name: f"#!/bin/sh\nset -e\n{read(f'{SCRIPTS}/{name}-nginx').decode()}" for name in ("postinst", "prerm", "postrm")}
     extra = {name: script.replace("#NAMES#", f"{CONFIGURATION}:50-{CONFIGURATION}") for name, script in extra.items()}
-    return found, f"libc6 (>= {elf.glibc(path)}), libjwtproved{it.major} (>= {it.version}), {nginx_abi()}", extra
+    return found, f"libc6 (>= {elf.glibc(path)}), {LIBRARY} (>= {it.version}), {nginx_abi()}", extra
 
 
-MAKERS = {"libjwtproved0": library, "libjwtproved-dev": development, "jwtproved": command, "libnginx-mod-http-jwtproved": nginx}
+MAKERS = {LIBRARY: library, "libjwtproved-dev": development, "jwtproved": command, "libnginx-mod-http-jwtproved": nginx}
 
 
 def write(it, name, proof, folder):

@@ -25,7 +25,6 @@ class Sources:
     def __init__(self, scratch, is_draft):
         self.scratch, self.is_draft = scratch, is_draft
         self.version, self.noted = c_library.version(), gate.read()
-        self.major = self.version.split(".")[0]
         self.commit, stamp, self.maker = gate.git("log", "-1", "--format=%H%n%ct%n%an <%ae>").split("\n")
         self.stamp = int(stamp)
         self.static, self.shared, _ = c_library.names()

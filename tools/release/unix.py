@@ -1,4 +1,5 @@
 """The files of the library for C and of the command, as folders of Unix have them."""
+from build.c_library import SONAME
 from build.kit import TOP
 from release.files import File, file, read, text, zipped
 
@@ -8,7 +9,7 @@ PC = ("prefix", "includedir", "libdir", "version")
 def shared(it, libdir):
     """Returns the shared library, and the name by which programs ask for it."""
     name = f"libjwtproved.so.{it.version}"
-    return {f"{libdir}/{name}": file(it.shared, 0o755), f"{libdir}/libjwtproved.so.{it.major}": File(link=name)}
+    return {f"{libdir}/{name}": file(it.shared, 0o755), f"{libdir}/libjwtproved.so.{SONAME}": File(link=name)}
 
 
 def pkg_config(it, prefix, includedir, libdir):
@@ -24,7 +25,7 @@ def development(it, includedir, libdir, pc):
     return {
         f"{includedir}/jwtproved.h": file(f"{TOP}/packages/c/include/jwtproved.h"),
         f"{libdir}/libjwtproved.a": file(it.static),
-        f"{libdir}/libjwtproved.so": File(link=f"libjwtproved.so.{it.major}"),
+        f"{libdir}/libjwtproved.so": File(link=f"libjwtproved.so.{SONAME}"),
         f"{libdir}/pkgconfig/jwtproved.pc": pc,
     }
 

@@ -36,9 +36,7 @@ int main(int argc, char **argv) {
     enum jwt_status status = JWT_OK;
     long i, times = argc == 6 ? atol(argv[5]) : 0;
     int is_verifier = times > 0 && strcmp(argv[1], "verifier") == 0;
-    size_t len;
-    uint64_t last;
-    uint32_t test;
+    struct jwt_verdict said;
     double start;
 
     if (times <= 0) {
@@ -50,8 +48,7 @@ int main(int argc, char **argv) {
     start = seconds();
     for (i = 0; i < times && status == JWT_OK; i++) {
         if (!is_verifier) status = make(set, options, JWT_PREPARE_NOTHING, &verifier);
-        if (status == JWT_OK)
-            status = jwt_verifier_decode(&verifier, TEXT(token), NOW, room, sizeof room, &len, &last, &test);
+        if (status == JWT_OK) status = jwt_verifier_decode(&verifier, TEXT(token), NOW, room, sizeof room, &said);
         if (!is_verifier) jwt_free(&verifier);
     }
     printf("%.1f\n", (seconds() - start) / times * 1e9);
